@@ -1,1 +1,4 @@
+pub mod Feeding
+pub mod Growth
+pub mod Told
 pub mod Volumes

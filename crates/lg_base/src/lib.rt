@@ -5,6 +5,14 @@
 #![tactic(auto)]
 
 mod amounts;
+mod feed;
+mod sink;
+mod sink_feed;
+mod source;
 
 pub use amounts::{Amount, Volumes};
+pub use feed::{ByteFeed, CountFeed, Feed, Stop};
+pub use sink::{Failed, Sink};
+pub use sink_feed::{SinkFeed, write_whole};
+pub use source::Source;
 pub use std::alloc::AllocError as NoMemory;
