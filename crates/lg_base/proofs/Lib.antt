@@ -1,3 +1,4 @@
+pub mod Buffered
 pub mod Feeds
 pub mod Slices
 pub mod Writing

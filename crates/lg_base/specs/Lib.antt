@@ -1,4 +1,6 @@
+pub mod Buffering
 pub mod Feeding
 pub mod Growth
 pub mod Told
 pub mod Volumes
+pub mod Waiting

@@ -5,13 +5,17 @@
 #![tactic(auto)]
 
 mod amounts;
+mod buffered_feed;
 mod feed;
+mod output_buffer;
 mod sink;
 mod sink_feed;
 mod source;
 
 pub use amounts::{Amount, Volumes};
+pub use buffered_feed::BufferedFeed;
 pub use feed::{ByteFeed, CountFeed, Feed, Stop};
+pub use output_buffer::OutputBuffer;
 pub use sink::{Failed, Sink};
 pub use sink_feed::{SinkFeed, write_whole};
 pub use source::Source;
