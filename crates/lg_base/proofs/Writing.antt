@@ -12,8 +12,8 @@ told_added (Some w) new bytes e m t = subst (λ (o : Option (List ℕ)). Told o 
 
 -- a write that took these bytes
 pub wrote : {K T E : Type 0} (written : K → Option (List ℕ)) (faults : K → ℕ) (old new : K) (bytes : List ℕ) (u : T)
-  → written new ≡ added (written old) bytes → faults old ≤ faults new
-  → Gives {T = T} {E = E} (λ k m. Told (written k) m) faults (λ _. 0) old new bytes (Ok u)
+    → written new ≡ added (written old) bytes → faults old ≤ faults new
+    → Gives {T = T} {E = E} (λ k m. Told (written k) m) faults (λ _. 0) old new bytes (Ok u)
 wrote written faults old new bytes u e later = record {
   ok = told_added (written old) (written new) bytes e;
   stopped = tt;
@@ -23,8 +23,8 @@ wrote written faults old new bytes u e later = record {
 
 -- a write that failed, whatever the text
 pub not_written : {K T E : Type 0} (written : K → Option (List ℕ)) (faults : K → ℕ) (old new : K) (text : List ℕ) (e : E)
-  → written new ≡ written old → faults old ≤ faults new → Rose (faults old) (faults new)
-  → Gives {T = T} {E = E} (λ k m. Told (written k) m) faults (λ _. 0) old new text (Err e)
+    → written new ≡ written old → faults old ≤ faults new → Rose (faults old) (faults new)
+    → Gives {T = T} {E = E} (λ k m. Told (written k) m) faults (λ _. 0) old new text (Err e)
 not_written written faults old new text e same later rose = record {
   ok = tt;
   stopped = λ m told. ([], text, refl, subst (λ (l : List ℕ). Told (written new) l) (sym (append-nil m)) (subst (λ (o : Option (List ℕ)). Told o m) (sym same) told));

@@ -99,5 +99,9 @@ fn make_room<K: Sink>(sink: &mut K, buffer: &mut OutputBuffer, count: usize) -> 
     ensures small { IfOk result (λ _. count ≤ 65536 → length buffer.new.bytes.items + count ≤ 65536) }
     ensures large { IfOk result (λ _. 65536 < count → length buffer.new.bytes.items ≡ 0) }
 {
-    if count > ROOM || buffer.bytes.len() > ROOM - count { write_waiting(sink, buffer) } else { Ok(()) }
+    if count > ROOM || buffer.bytes.len() > ROOM - count {
+        write_waiting(sink, buffer)
+    } else {
+        Ok(())
+    }
 }

@@ -11,6 +11,8 @@ mod output_buffer;
 mod sink;
 mod sink_feed;
 mod source;
+mod status;
+mod texts;
 
 pub use amounts::{Amount, Volumes};
 pub use buffered_feed::BufferedFeed;
@@ -19,4 +21,6 @@ pub use output_buffer::OutputBuffer;
 pub use sink::{Failed, Sink};
 pub use sink_feed::{SinkFeed, write_whole};
 pub use source::Source;
+pub use status::Status;
 pub use std::alloc::AllocError as NoMemory;
+pub use texts::{feed_json_text, feed_number};

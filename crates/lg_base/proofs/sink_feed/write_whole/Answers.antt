@@ -12,7 +12,7 @@ pub writing-preserved : goal.writing-preserved
 writing-preserved g c = record {
   within = omega (arith, c.in-Ok.ensures.bound);
   rest = let family : List ℕ → Type 0 = λ left. Completes Stop (λ k m. Told (g.K.Sink.written k) m) g.K.Sink.faults (λ _. 0) c.args.sink.now c.writing.sink c.args.bytes.now left in
-    Completes-more {u = c.in-Ok.count} (subst family (left_splits c.args.bytes.now c.writing.start c.in-Ok.count) c.writing.invariant.rest)
+      Completes-more {u = c.in-Ok.count} (subst family (left_splits c.args.bytes.now c.writing.start c.in-Ok.count) c.writing.invariant.rest)
       (wrote g.K.Sink.written g.K.Sink.faults _ _ _ _ c.in-Ok.ensures.bytes c.in-Ok.ensures.cause.later);
 }
 
@@ -21,6 +21,6 @@ returns-in-Err g c = c.writing.invariant.rest.on _ _ (not_written g.K.Sink.writt
 
 pub returns : goal.returns
 returns g c =
-  let family : List ℕ → Type 0 = λ left. Completes Stop (λ k m. Told (g.K.Sink.written k) m) g.K.Sink.faults (λ _. 0) c.args.sink.now c.writing.sink c.args.bytes.now left in
-  let all : length c.args.bytes.now ≤ c.writing.start = omega arith in
-  Completes-end (subst family (drop_all c.writing.start c.args.bytes.now all) c.writing.invariant.rest)
+    let family : List ℕ → Type 0 = λ left. Completes Stop (λ k m. Told (g.K.Sink.written k) m) g.K.Sink.faults (λ _. 0) c.args.sink.now c.writing.sink c.args.bytes.now left in
+    let all : length c.args.bytes.now ≤ c.writing.start = omega arith in
+    Completes-end (subst family (drop_all c.writing.start c.args.bytes.now all) c.writing.invariant.rest)
