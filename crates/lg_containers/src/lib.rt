@@ -5,8 +5,10 @@ mod address;
 mod asset;
 mod bytes;
 mod counted;
+mod duplicate;
 mod fault;
 mod grammar;
+mod list;
 mod name;
 mod order;
 
@@ -14,8 +16,10 @@ pub use address::{AddressGrammar, AddressState};
 pub use asset::{AssetGrammar, AssetState};
 pub use bytes::{is_code_byte, is_word_byte};
 pub use counted::{BucketGrammar, CountedState, KeyGrammar, LedgerNameGrammar};
+pub use duplicate::{Duplicate, copy_items};
 pub use fault::{NameFault, NoMemory};
 pub use grammar::Grammar;
+pub use list::List;
 pub use name::Name;
 
 /// The address of an account, as `users:1:wallet`.

@@ -3,7 +3,8 @@
 ghost use Rattle.std.specs.Prelude.{◌≡◌, IfOk, OnOk, IfErr};
 ghost use Rattle.lg_containers.specs.NameFaults.{IsNameFault};
 
-use crate::fault::NameFault;
+use crate::duplicate::Duplicate;
+use crate::fault::{NameFault, NoMemory};
 use crate::grammar::Grammar;
 use std::alloc::Global;
 use std::marker::{Model, PhantomData};
@@ -56,5 +57,15 @@ impl<G: Grammar> Name<G> {
         ensures name { G.Names self.now }
     {
         self.bytes.as_slice()
+    }
+}
+
+impl<G: Grammar> Duplicate for Name<G> {
+    fn copy(&self, alloc: Global) -> Result<Name<G>, NoMemory> {
+        let bytes = Vec::from_slice(alloc, self.bytes.as_slice())?;
+        Ok(Name {
+            bytes,
+            grammar: PhantomData,
+        })
     }
 }
