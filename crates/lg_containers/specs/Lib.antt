@@ -8,3 +8,7 @@ pub mod AssetGrammar
 pub mod AssetLaws
 pub mod CountedGrammar
 pub mod CountedLaws
+pub mod NameOrder
+pub mod NameTable
+pub mod Pairs
+pub mod Places

@@ -9,6 +9,7 @@ mod duplicate;
 mod fault;
 mod grammar;
 mod list;
+mod map;
 mod name;
 mod order;
 
@@ -20,6 +21,7 @@ pub use duplicate::{Duplicate, copy_items};
 pub use fault::{NameFault, NoMemory};
 pub use grammar::Grammar;
 pub use list::List;
+pub use map::NameMap;
 pub use name::Name;
 
 /// The address of an account, as `users:1:wallet`.

@@ -1,0 +1,7 @@
+pub mod Buffering
+pub mod Feeding
+pub mod Growth
+pub mod Texts
+pub mod Told
+pub mod Volumes
+pub mod Waiting
