@@ -56,13 +56,13 @@ module _ {V : Type 0} (name : List ℕ) where
   find-front [] back h = refl
   find-front (e ∷ es) back h =
       ap (λ r. cond (is_eq r) (Some e.1) (find name_order name (es ++ back))) (turned e.0 name Less (from_lt _ (first_true _ _ h)))
-          ∙ find-front es back (second_true _ _ h)
+      ∙ find-front es back (second_true _ _ h)
 
   pub find-back : (back : List (List ℕ × V)) → IsTrue (all_greater name back) → find name_order name back ≡ None
   find-back [] h = refl
   find-back (e ∷ es) h =
       ap (λ r. cond (is_eq r) (Some e.1) (find name_order name es)) (turned e.0 name Greater (from_gt _ (first_true _ _ h)))
-          ∙ find-back es (second_true _ _ h)
+      ∙ find-back es (second_true _ _ h)
 
   find_here : (v : V) (back : List (List ℕ × V)) → find name_order name ((name, v) ∷ back) ≡ Some v
   find_here v back = ap (λ r. cond (is_eq r) (Some v) (find name_order name back)) (itself name)
@@ -71,7 +71,7 @@ module _ {V : Type 0} (name : List ℕ) where
   put-front v [] back h = refl
   put-front v (e ∷ es) back h =
       ap (λ r. by_order r ((name, v) ∷ e ∷ (es ++ back)) ((e.0, v) ∷ (es ++ back)) (e ∷ put name_order name v (es ++ back))) (turned e.0 name Less (from_lt _ (first_true _ _ h)))
-          ∙ ap (λ xs. e ∷ xs) (put-front v es back (second_true _ _ h))
+      ∙ ap (λ xs. e ∷ xs) (put-front v es back (second_true _ _ h))
 
   put-back : (v : V) (back : List (List ℕ × V)) → IsTrue (all_greater name back) → put name_order name v back ≡ (name, v) ∷ back
   put-back v [] h = refl
@@ -85,13 +85,13 @@ module _ {V : Type 0} (name : List ℕ) where
   where-front [] back h = refl
   where-front (e ∷ es) back h =
       ap (λ r. cond (not (is_eq r)) (e ∷ where_key name_order (other_than name) (es ++ back)) (where_key name_order (other_than name) (es ++ back))) (turned e.0 name Less (from_lt _ (first_true _ _ h)))
-          ∙ ap (λ xs. e ∷ xs) (where-front es back (second_true _ _ h))
+      ∙ ap (λ xs. e ∷ xs) (where-front es back (second_true _ _ h))
 
   where-back : (back : List (List ℕ × V)) → IsTrue (all_greater name back) → where_key name_order (other_than name) back ≡ back
   where-back [] h = refl
   where-back (e ∷ es) h =
       ap (λ r. cond (not (is_eq r)) (e ∷ where_key name_order (other_than name) es) (where_key name_order (other_than name) es)) (turned e.0 name Greater (from_gt _ (first_true _ _ h)))
-          ∙ ap (λ xs. e ∷ xs) (where-back es (second_true _ _ h))
+      ∙ ap (λ xs. e ∷ xs) (where-back es (second_true _ _ h))
 
   where_here : (v : V) (back : List (List ℕ × V)) → where_key name_order (other_than name) ((name, v) ∷ back) ≡ where_key name_order (other_than name) back
   where_here v back =
@@ -106,14 +106,14 @@ module _ {V : Type 0} (name : List ℕ) where
   pub put_at : (pairs : List (List ℕ × V)) (place : ℕ) (v : V) → IsAt name pairs place → set pairs place (name, v) ≡ put name_order name v pairs
   put_at pairs place v at =
       ap₂ (λ ps n. set ps n (name, v)) at.parts (sym at.length_front)
-          ∙ set-append_seam at.front (name, at.value) (name, v) at.back
-          ∙ sym (ap (put name_order name v) at.parts ∙ put-front v at.front ((name, at.value) ∷ at.back) at.less ∙ ap (λ ps. at.front ++ ps) (put_here v at.value at.back))
+      ∙ set-append_seam at.front (name, at.value) (name, v) at.back
+      ∙ sym (ap (put name_order name v) at.parts ∙ put-front v at.front ((name, at.value) ∷ at.back) at.less ∙ ap (λ ps. at.front ++ ps) (put_here v at.value at.back))
 
   pub taken_at : (pairs : List (List ℕ × V)) (place : ℕ) → IsAt name pairs place → remove pairs place ≡ where_key name_order (other_than name) pairs
   taken_at pairs place at =
       ap₂ remove at.parts (sym at.length_front)
-          ∙ remove-append_seam at.front (name, at.value) at.back
-          ∙ sym (ap (where_key name_order (other_than name)) at.parts ∙ where-front at.front ((name, at.value) ∷ at.back) at.less ∙ ap (λ ps. at.front ++ ps) (where_here at.value at.back ∙ where-back at.back at.greater))
+      ∙ remove-append_seam at.front (name, at.value) at.back
+      ∙ sym (ap (where_key name_order (other_than name)) at.parts ∙ where-front at.front ((name, at.value) ∷ at.back) at.less ∙ ap (λ ps. at.front ++ ps) (where_here at.value at.back ∙ where-back at.back at.greater))
 
   pub not_found : (pairs : List (List ℕ × V)) (place : ℕ) → BelongsAt name pairs place → None ≡ find name_order name pairs
   not_found pairs place at = sym (ap (find name_order name) at.parts ∙ find-front at.front at.back at.less ∙ find-back at.back at.greater)
@@ -121,8 +121,8 @@ module _ {V : Type 0} (name : List ℕ) where
   pub inserted_at : (pairs : List (List ℕ × V)) (place : ℕ) (v : V) → BelongsAt name pairs place → insert pairs place (name, v) ≡ put name_order name v pairs
   inserted_at pairs place v at =
       ap₂ (λ ps n. insert ps n (name, v)) at.parts (sym at.length_front)
-          ∙ insert-append_seam at.front (name, v) at.back
-          ∙ sym (ap (put name_order name v) at.parts ∙ put-front v at.front at.back at.less ∙ ap (λ ps. at.front ++ ps) (put-back v at.back at.greater))
+      ∙ insert-append_seam at.front (name, v) at.back
+      ∙ sym (ap (put name_order name v) at.parts ∙ put-front v at.front at.back at.less ∙ ap (λ ps. at.front ++ ps) (put-back v at.back at.greater))
 
   pub without : (pairs : List (List ℕ × V)) (place : ℕ) → BelongsAt name pairs place → pairs ≡ where_key name_order (other_than name) pairs
   without pairs place at =

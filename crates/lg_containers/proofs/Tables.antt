@@ -35,9 +35,9 @@ module _ {V : Type 0} where
   pub put_table : (old new : List (List ℕ × V)) (t : NameTable V) (name : List ℕ) (v : V) → IsTrue (is_in_order old) → from_pairs old ≡ t → new ≡ put name_order name v old → from_pairs new ≡ insert t name v
   put_table old new t name v h e is =
       same_pairs _ _ (ap (λ ps. pairs_of (from_pairs ps)) is
-          ∙ pairs-from_pairs (put name_order name v old) (put_in_order old name v h)
-          ∙ ap (put name_order name v) (pairs_here old t h e)
-          ∙ sym (pairs-insert t name v))
+      ∙ pairs-from_pairs (put name_order name v old) (put_in_order old name v h)
+      ∙ ap (put name_order name v) (pairs_here old t h e)
+      ∙ sym (pairs-insert t name v))
 
   pub put_keeps : (E : Type 0) (r : Result (Unit {0}) E) (old new : List (List ℕ × V)) (name : List ℕ) (v : V) → IsTrue (is_in_order old) → OnOk r (new ≡ put name_order name v old) → OnErr r (new ≡ old) → IsTrue (is_in_order new)
   put_keeps E (Ok u) old new name v h ok err = subst (λ ps. IsTrue (is_in_order ps)) (sym ok) (put_in_order old name v h)
@@ -46,9 +46,9 @@ module _ {V : Type 0} where
   pub take_table : (old new : List (List ℕ × V)) (t : NameTable V) (name : List ℕ) → IsTrue (is_in_order old) → from_pairs old ≡ t → new ≡ where_key name_order (other_than name) old → from_pairs new ≡ remove t name
   take_table old new t name h e is =
       same_pairs _ _ (ap (λ ps. pairs_of (from_pairs ps)) is
-          ∙ pairs-from_pairs (where_key name_order (other_than name) old) (where_in_order old name h)
-          ∙ ap (where_key name_order (other_than name)) (pairs_here old t h e)
-          ∙ sym (pairs-remove t name))
+      ∙ pairs-from_pairs (where_key name_order (other_than name) old) (where_in_order old name h)
+      ∙ ap (where_key name_order (other_than name)) (pairs_here old t h e)
+      ∙ sym (pairs-remove t name))
 
   pub take_keeps : (old new : List (List ℕ × V)) (name : List ℕ) → IsTrue (is_in_order old) → new ≡ where_key name_order (other_than name) old → IsTrue (is_in_order new)
   take_keeps old new name h is = subst (λ ps. IsTrue (is_in_order ps)) (sym is) (where_in_order old name h)

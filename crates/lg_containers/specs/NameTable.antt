@@ -123,8 +123,8 @@ module _ {V : Type 0} where
   unfolding get remove
   get-remove t name q =
       find-where_key name_order (other_than name) q (λ x tied. ap (λ r. not (is_eq r)) (sym (alike_right nat_list_cmp_total q x name tied))) t.pairs
-          ∙ turned (eq_by_cmp name_order name q) _ _
-          ∙ ap (λ b. cond b None (find name_order q t.pairs)) ((eq_by_cmp_equiv nat_list_cmp_total).symm name q)
+      ∙ turned (eq_by_cmp name_order name q) _ _
+      ∙ ap (λ b. cond b None (find name_order q t.pairs)) ((eq_by_cmp_equiv nat_list_cmp_total).symm name q)
 
   pub len-insert : (t : NameTable V) (name : List ℕ) (v : V) → len (insert t name v) ≡ cond (contains t name) (len t) (len t + 1)
   unfolding len insert contains

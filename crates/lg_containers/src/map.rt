@@ -8,11 +8,10 @@ ghost use Rattle.lg_containers.specs.NameTable as table;
 ghost use Rattle.lg_containers.specs.Pairs.{pair_of};
 ghost use Rattle.lg_containers.specs.Places.{IsPlace};
 
-use crate::duplicate::{copy_items, Duplicate};
+use crate::duplicate::{Duplicate, copy_items};
 use crate::fault::NoMemory;
 use crate::grammar::Grammar;
 use crate::name::Name;
-
 use std::alloc::Global;
 use std::cmp::Ordering;
 use std::marker::Model;
@@ -133,7 +132,11 @@ fn find_entry<'a, G: Grammar, V>(entries: &'a [(Name<G>, V)], name: &[u8]) -> Op
     }
 }
 
-fn put_entry<G: Grammar, V: Drop>(entries: &mut Vec<(Name<G>, V)>, name: Name<G>, value: V) -> Result<(), NoMemory>
+fn put_entry<G: Grammar, V: Drop>(
+    entries: &mut Vec<(Name<G>, V)>,
+    name: Name<G>,
+    value: V,
+) -> Result<(), NoMemory>
     requires { IsTrue (is_in_order entries.old.items) }
     ensures ok { OnOk result (entries.new.items ≡ put_pair name_order name value entries.old.items) }
     ensures err { OnErr result (entries.new.items ≡ entries.old.items) }

@@ -1,5 +1,5 @@
 use Rattle.std.proofs.Common.{rules}
-use Rattle.std.proofs.lemmas.List.Sorted.{answers_always}
+use Rattle.std.proofs.lemmas.Fn.{always_returns_same}
 use Rattle.lg_containers.specs.NameOrder.{name_order}
 use Rattle.lg_containers.proofs.Placed.{searched}
 use Rattle.lg_containers.proofs.map.place_of.Goals as goal
@@ -9,4 +9,4 @@ pub returns : goal.returns
 returns g c =
     let facts = c.binary_search_by.ensures in
     searched c.args.name.now c.args.entries.now c.binary_search_by.result c.requires facts.bound
-        (facts.position (λ p. name_order p.0 c.args.name.now) (answers_always _ _ _ (λ f a r h called. search rules)))
+    (facts.position (λ p. name_order p.0 c.args.name.now) (always_returns_same _ _ _ (λ a r f called. search rules)))
