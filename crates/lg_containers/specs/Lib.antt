@@ -1,0 +1,14 @@
+pub mod Grammar
+pub mod GrammarLaws
+pub mod NameFaults
+pub mod Bytes
+pub mod AddressGrammar
+pub mod AddressLaws
+pub mod AssetGrammar
+pub mod AssetLaws
+pub mod CountedGrammar
+pub mod CountedLaws
+pub mod NameOrder
+pub mod NameTable
+pub mod Pairs
+pub mod Places

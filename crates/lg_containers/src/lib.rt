@@ -1,0 +1,40 @@
+//! The containers that the ledger's types are made of: names with a grammar, lists, and maps from names.
+#![tactic(auto)]
+
+mod address;
+mod asset;
+mod bytes;
+mod counted;
+mod duplicate;
+mod fault;
+mod grammar;
+mod list;
+mod map;
+mod name;
+mod order;
+
+pub use address::{AddressGrammar, AddressState};
+pub use asset::{AssetGrammar, AssetState};
+pub use bytes::{is_code_byte, is_word_byte};
+pub use counted::{BucketGrammar, CountedState, KeyGrammar, LedgerNameGrammar};
+pub use duplicate::{Duplicate, copy_items};
+pub use fault::{NameFault, NoMemory};
+pub use grammar::Grammar;
+pub use list::List;
+pub use map::NameMap;
+pub use name::Name;
+
+/// The address of an account, as `users:1:wallet`.
+pub type Address = Name<AddressGrammar>;
+
+/// The name of an asset, as `USD/2`.
+pub type Asset = Name<AssetGrammar>;
+
+/// The name of a ledger, as `default`.
+pub type LedgerName = Name<LedgerNameGrammar>;
+
+/// The bucket of a ledger, as `_default`.
+pub type Bucket = Name<BucketGrammar>;
+
+/// The idempotency key of a call.
+pub type Key = Name<KeyGrammar>;
