@@ -12,3 +12,8 @@ pub mod NameOrder
 pub mod NameTable
 pub mod Pairs
 pub mod Places
+pub mod Utf8
+pub mod Utf8Laws
+pub mod TextLaws
+pub mod ReferenceGrammar
+pub mod ReferenceLaws
