@@ -1,7 +1,7 @@
-ghost use Rattle.std.specs.Prelude.{◌≡◌, pos, ◌≤◌, ◌<◌, List, [], ◌∷◌, ◌++◌, take};
+ghost use Rattle.std.specs.Prelude.{◌≡◌, pos, ◌+ℤ◌, unsigned_abs, ◌≤◌, ◌<◌, List, [], ◌∷◌, ◌++◌, take};
 ghost use Rattle.lg_time.specs.Texts.{two_digits as text_of_two, six_digits as text_of_six};
 ghost use Rattle.lg_time.specs.Moment.{IsMoment, IsInMoments};
-ghost use Rattle.lg_time.specs.Canonical.{date_after, text_of_date, text_of_seconds, without_trailing_zeros, moment_text};
+ghost use Rattle.lg_time.specs.Canonical.{date_after, text_of_date, text_of_seconds, text_of_fraction, without_trailing_zeros, moment_text};
 
 use jiff_core::civil::Date;
 
@@ -24,30 +24,50 @@ pub fn print_moment(moment: i64, into: &mut [u8; 27]) -> usize
     ensures text { take result into.new ≡ moment_text moment }
     ensures reads_back { IsMoment (take result into.new) moment }
 {
-    let elapsed = (moment + BEFORE_EPOCH) as u64;
+    let elapsed = elapsed(moment);
     let microseconds = (elapsed % 1_000_000) as u32;
     let date = date_digits((elapsed / DAY) as u32);
     let time = time_digits((elapsed % DAY / 1_000_000) as u32);
     let fraction = six_digits(microseconds);
-    fill(into, &date, &time, &fraction);
-    let end = if microseconds == 0 {
-        19
-    } else {
-        20 + significant(&fraction)
-    };
+    *into = whole_text(&date, &time, &fraction);
+    let end = 19 + fraction_len(microseconds, &fraction);
     into[end] = b'Z';
     end + 1
 }
 
-/// Writes a date, a time of day and a whole fraction.
-fn fill(into: &mut [u8; 27], date: &[u8; 10], time: &[u8; 8], fraction: &[u8; 6])
-    ensures { take 26 into.new ≡ date.now ++ 84 ∷ (time.now ++ 46 ∷ fraction.now) }
+/// The microseconds from 0001-01-01T00:00:00Z to a moment.
+fn elapsed(moment: i64) -> u64
+    requires { IsInMoments moment }
+    ensures value { result ≡ unsigned_abs (moment +ℤ pos 62135596800000000) }
+    ensures bound { result < 315537897600000000 }
 {
-    into[..10].copy_from_slice(date);
-    into[10] = b'T';
-    into[11..19].copy_from_slice(time);
-    into[19] = b'.';
-    into[20..26].copy_from_slice(fraction);
+    (moment + BEFORE_EPOCH) as u64
+}
+
+/// The text with all six digits of the fraction.
+fn whole_text(date: &[u8; 10], time: &[u8; 8], fraction: &[u8; 6]) -> [u8; 27]
+    ensures { result ≡ date.now ++ 84 ∷ (time.now ++ 46 ∷ (fraction.now ++ 90 ∷ [])) }
+{
+    let [y1, y2, y3, y4, d1, m1, m2, d2, d3, d4] = *date;
+    let [h1, h2, c1, n1, n2, c2, s1, s2] = *time;
+    let [f1, f2, f3, f4, f5, f6] = *fraction;
+    [
+        y1, y2, y3, y4, d1, m1, m2, d2, d3, d4, b'T', h1, h2, c1, n1, n2, c2, s1, s2, b'.', f1, f2,
+        f3, f4, f5, f6, b'Z',
+    ]
+}
+
+/// How many bytes the fraction has, with its point.
+fn fraction_len(microseconds: u32, digits: &[u8; 6]) -> usize
+    requires { digits.now ≡ text_of_six microseconds }
+    ensures bound { result ≤ 7 }
+    ensures value { take result (46 ∷ digits.now) ≡ text_of_fraction microseconds }
+{
+    if microseconds == 0 {
+        0
+    } else {
+        significant(digits) + 1
+    }
 }
 
 /// How many digits stand up to the last that is not 0.
@@ -67,12 +87,24 @@ fn date_digits(days: u32) -> [u8; 10]
     requires { days ≤ 3652058 }
     ensures { result ≡ text_of_date (date_after days) }
 {
-    let date = Date::from_days_since_min(days + BEFORE_YEAR_1);
-    let [y1, y2] = two_digits((date.year / 100) as u32);
-    let [y3, y4] = two_digits((date.year % 100) as u32);
+    let date = date_of(days);
+    let year = date.year as u32;
+    let [y1, y2] = two_digits(year / 100);
+    let [y3, y4] = two_digits(year % 100);
     let [m1, m2] = two_digits(u32::from(date.month));
     let [d1, d2] = two_digits(u32::from(date.day));
     [y1, y2, y3, y4, b'-', m1, m2, b'-', d1, d2]
+}
+
+/// The date that lies so many days after 0001-01-01.
+fn date_of(days: u32) -> Date
+    requires { days ≤ 3652058 }
+    ensures year { result.year ≡ pos (date_after days).year }
+    ensures month { result.month ≡ (date_after days).month }
+    ensures day { result.day ≡ (date_after days).day }
+    ensures year_in { (date_after days).year ≤ 9999 }
+{
+    Date::from_days_since_min(days + BEFORE_YEAR_1)
 }
 
 /// `hh:mm:ss` of the seconds since midnight.
