@@ -12,3 +12,4 @@ pub mod NameOrder
 pub mod NameTable
 pub mod Pairs
 pub mod Places
+pub mod CanonicalTexts
