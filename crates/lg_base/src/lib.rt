@@ -7,6 +7,8 @@
 mod amounts;
 mod buffered_feed;
 mod feed;
+mod memory_sink;
+mod memory_source;
 mod output_buffer;
 mod read_end;
 mod reading;
@@ -19,6 +21,8 @@ mod texts;
 pub use amounts::{Amount, Volumes};
 pub use buffered_feed::BufferedFeed;
 pub use feed::{ByteFeed, CountFeed, Feed, Stop};
+pub use memory_sink::{CalmSink, MemSink};
+pub use memory_source::{CalmSource, MemSource};
 pub use output_buffer::OutputBuffer;
 pub use read_end::ReadEnd;
 pub use reading::read_all;

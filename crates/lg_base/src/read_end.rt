@@ -16,6 +16,7 @@ pub enum ReadEnd {
 impl From<AllocError> for ReadEnd {
     ghost use Rattle.std.specs.Prelude.{◌≡◌};
     ghost use Rattle.lg_base.specs.declared.read_end.ReadEnd.TheVariants.{NoMemory};
+
     ghost from_gives = { λ _ e. e ≡ NoMemory };
 
     fn from(_: AllocError) -> ReadEnd {

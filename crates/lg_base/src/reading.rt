@@ -3,11 +3,10 @@
 ghost use Rattle.std.specs.Prelude.{◌≡◌, ◌≤◌, ◌<◌, length, IfOk, IfErr};
 ghost use Rattle.lg_base.specs.Reading.{ReadWhole, EndedBy, TakesMore, StopsReading};
 
-use std::alloc::{AllocError, Global};
-
 use crate::read_end::ReadEnd;
 use crate::sink::Failed;
 use crate::source::Source;
+use std::alloc::{AllocError, Global};
 
 /// How many bytes a read asks for.
 const CHUNK: usize = 65536;
@@ -30,7 +29,11 @@ pub fn read_all<S: Source>(alloc: Global, source: &mut S, limit: usize) -> Resul
 }
 
 /// Reads once, and puts what was read behind the bytes. Answers how many bytes that were.
-fn read_more<S: Source>(source: &mut S, chunk: &mut [u8], bytes: &mut Vec<u8>) -> Result<usize, ReadEnd>
+fn read_more<S: Source>(
+    source: &mut S,
+    chunk: &mut [u8],
+    bytes: &mut Vec<u8>,
+) -> Result<usize, ReadEnd>
     requires { 0 < length chunk.old }
     ensures bytes { IfOk result (λ n. TakesMore S.Source source.old source.new bytes.old.items bytes.new.items n) }
     ensures ended { IfErr result (StopsReading S.Source source.old source.new) }

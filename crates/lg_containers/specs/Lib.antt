@@ -13,3 +13,8 @@ pub mod NameTable
 pub mod Pairs
 pub mod Places
 pub mod CanonicalTexts
+pub mod Utf8
+pub mod Utf8Laws
+pub mod TextLaws
+pub mod ReferenceGrammar
+pub mod ReferenceLaws

@@ -14,6 +14,9 @@ mod list;
 mod map;
 mod name;
 mod order;
+mod reference;
+mod text;
+pub mod utf8;
 
 pub use address::{AddressGrammar, AddressState};
 pub use asset::{AssetGrammar, AssetState};
@@ -27,6 +30,8 @@ pub use grammar::Grammar;
 pub use list::List;
 pub use map::NameMap;
 pub use name::Name;
+pub use reference::{ReferenceGrammar, ReferenceState};
+pub use text::TextGrammar;
 
 /// The address of an account, as `users:1:wallet`.
 pub type Address = Name<AddressGrammar>;
@@ -42,3 +47,15 @@ pub type Bucket = Name<BucketGrammar>;
 
 /// The idempotency key of a call.
 pub type Key = Name<KeyGrammar>;
+
+/// A text: any UTF-8.
+pub type Text = Name<TextGrammar>;
+
+/// The reference of a transaction.
+pub type Reference = Name<ReferenceGrammar>;
+
+/// Metadata: texts under names.
+pub type Meta = NameMap<TextGrammar, Text>;
+
+/// Metadata of accounts.
+pub type AccountMeta = NameMap<AddressGrammar, Meta>;

@@ -51,6 +51,17 @@ impl<G: Grammar> Name<G> {
         })
     }
 
+    /// The name that the bytes are, with no test.
+    pub fn from_vec(bytes: Vec<u8>) -> Name<G>
+        requires { G.Names bytes.items }
+        ensures { result ≡ bytes.items }
+    {
+        Name {
+            bytes,
+            grammar: PhantomData,
+        }
+    }
+
     /// The bytes of the name.
     pub fn bytes(&self) -> &[u8]
         ensures value { result.now ≡ self.now }
