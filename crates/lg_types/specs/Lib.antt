@@ -1,0 +1,4 @@
+pub mod EntryTexts
+pub mod Moments
+pub mod PartTexts
+pub mod RecordPartTexts
