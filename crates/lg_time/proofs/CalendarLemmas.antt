@@ -70,7 +70,7 @@ next_is n d h =
 
 pub date_after_is : (n : ℕ) → IsDayAt n (date_after n)
 unfolding date_after
-date_after_is zero = record { year_in = omega arith; month_in = (omega arith, omega arith); day_in = (omega arith, omega arith); counted = first_day; }
+date_after_is zero = record { year_in = omega arith; month_in = (omega arith, omega arith); day_in = (omega arith, omega arith); counted = first_day }
 date_after_is (suc n) = next_is n (date_after n) (date_after_is n)
 
 last_date : IsCivilDate (pos 9999) 12 31
