@@ -1,6 +1,6 @@
-use Rattle.std.proofs.Common.{◌≡◌, ℕ, ℤ, pos, ◌+ℤ◌, ◌*ℤ◌, arith, rules, ap, sym, ◌∙◌, Some, None, take, drop, IsTrue}
+use Rattle.std.proofs.Common.{◌≡◌, arith, take, drop, IsTrue}
 use Rattle.std.proofs.lemmas.Int.{ints}
-use Rattle.lg_time.specs.Moment.{IsDate, IsTime, IsEnd, IsMoment}
+use Rattle.lg_time.specs.Moment.{IsDate, IsTime, IsEnd}
 use Rattle.lg_time.proofs.ReadLemmas.{places, at_places, never, same_some, as_some, refuted}
 use Rattle.lg_time.proofs.read.moment_of.Goals as goal
 

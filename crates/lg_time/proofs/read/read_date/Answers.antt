@@ -1,4 +1,4 @@
-use Rattle.std.proofs.Common.{◌≡◌, ◌≤◌, ◌-◌, length, arith, get_or, List, [], ◌∷◌, refl, ap}
+use Rattle.std.proofs.Common.{◌≡◌, arith, get_or, [], ◌∷◌, refl}
 use Rattle.std.proofs.lemmas.Slice.Eq.{text_from_reads}
 use Rattle.std.proofs.lemmas.Int.{ints}
 use Rattle.lg_time.proofs.ReadLemmas.{date_made, date_only, as_some}

@@ -1,4 +1,4 @@
-use Rattle.std.proofs.Common.{◌≡◌, arith, get_or, List, [], ◌∷◌, refl}
+use Rattle.std.proofs.Common.{◌≡◌, arith, get_or, [], ◌∷◌, refl}
 use Rattle.std.proofs.lemmas.Slice.Eq.{text_from_reads}
 use Rattle.lg_time.proofs.ReadLemmas.{zone_made, zone_offset, never}
 use Rattle.lg_time.proofs.read.read_zone.Goals as goal
