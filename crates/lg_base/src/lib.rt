@@ -32,3 +32,6 @@ pub use source::Source;
 pub use status::Status;
 pub use std::alloc::AllocError as NoMemory;
 pub use texts::{feed_json_text, feed_number};
+
+#[cfg(test)]
+mod tests;
