@@ -1,4 +1,5 @@
 pub mod Lists
+pub mod Moments
 pub mod Stripes
 pub mod Tally
 pub mod Moves
@@ -6,3 +7,5 @@ pub mod Changes
 pub mod Known
 pub mod Parts
 pub mod Marked
+pub mod Log
+pub mod Trial
