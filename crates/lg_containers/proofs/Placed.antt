@@ -1,7 +1,7 @@
 -- Pairs in order around the place of a name: what is found there, and what an edit there gives.
-use Rattle.std.proofs.Common.{◌≡◌, ℕ, zero, suc, ◌+◌, ◌<◌, ◌≤◌, Bool, true, false, cond, not, ◌&&◌, T, List, [], ◌∷◌, ◌++◌, length, get_or, set, take, drop, IsTrue, Option, Some, None, Result, Ok, Err, Ordering, Less, Equal, Greater, is_eq, is_lt, is_gt, insert, remove, refl, sym, ap, subst, ◌∙◌, arith, add-one, ap₂, length-append}
-use Rattle.std.specs.List.{list_all, AllWithin, HoldsAt}
-use Rattle.std.specs.List.Sorted.{IsSearchInRange, IsBinarySearchResult, IsSortedBy, IsNonDecreasingBy}
+use Rattle.std.proofs.Common.{◌≡◌, ℕ, zero, suc, ◌<◌, ◌≤◌, Bool, true, false, cond, not, ◌&&◌, List, [], ◌∷◌, ◌++◌, length, get_or, set, IsTrue, Some, None, Result, Ok, Err, Ordering, Less, Equal, Greater, is_eq, is_lt, is_gt, insert, remove, refl, sym, ap, subst, ◌∙◌, arith, add-one, ap₂, length-append}
+use Rattle.std.specs.List.{AllWithin, HoldsAt}
+use Rattle.std.specs.List.Sorted.{IsSearchInRange, IsBinarySearchResult, IsNonDecreasingBy}
 use Rattle.std.specs.Ordering.{ordering_reverse, ordering_index}
 use Rattle.std.specs.Cmp.{tied_itself}
 use Rattle.std.specs.Cmp.Lexicographic.{nat_list_cmp_total}

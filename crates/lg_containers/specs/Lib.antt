@@ -12,6 +12,7 @@ pub mod NameOrder
 pub mod NameTable
 pub mod Pairs
 pub mod Places
+pub mod CanonicalTexts
 pub mod Utf8
 pub mod Utf8Laws
 pub mod TextLaws

@@ -7,8 +7,8 @@
 --     from_pairs       the map of pairs in order, and else `empty`
 --     code             the code of the maps, from that of the values
 --     same_pairs, same_table     maps with equal pairs, or that answer alike at every name, are equal
-use Rattle.std.specs.Prelude.{◌≡◌, ℕ, ◌+◌, ◌-◌, Bool, true, false, cond, not, T, List, [], ◌∷◌, map, length, is_some, IsTrue}
-use Rattle.std.proofs.Common.{Option, Some, None, refl, sym, ap, subst, ◌∙◌, arith}
+use Rattle.std.specs.Prelude.{◌≡◌, ℕ, ◌+◌, Bool, true, false, cond, not, T, List, [], map, length, is_some, IsTrue}
+use Rattle.std.proofs.Common.{Option, Some, None, refl, sym, ap, subst, ◌∙◌}
 use mathlib.Core.HLevel.{Σ_prop_path}
 use lib.Dec.{T_prop}
 use base.Stored.{Coded, coded×, coded_list, coded_ℕ, coded_via}

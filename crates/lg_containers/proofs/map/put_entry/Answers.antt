@@ -1,6 +1,6 @@
 use Rattle.std.proofs.Common.{◌∙◌}
 use Rattle.lg_containers.specs.Places.{IsAt, BelongsAt}
-use Rattle.lg_containers.proofs.Placed.{put_at, inserted_at, in_range, in_gap}
+use Rattle.lg_containers.proofs.Placed.{put_at, inserted_at}
 use Rattle.lg_containers.proofs.map.put_entry.Goals as goal
 
 pub returns-in-Ok-clause-ok : goal.returns-in-Ok-clause-ok

@@ -1,6 +1,6 @@
 use Rattle.std.proofs.Common.{Some, ap, ◌∙◌}
 use Rattle.lg_containers.specs.Places.{IsAt, BelongsAt}
-use Rattle.lg_containers.proofs.Placed.{found_at, taken_at, not_found, without, in_range}
+use Rattle.lg_containers.proofs.Placed.{found_at, taken_at, not_found, without}
 use Rattle.lg_containers.proofs.map.take_entry.Goals as goal
 
 pub returns-in-Ok-clause-value : goal.returns-in-Ok-clause-value
