@@ -77,3 +77,8 @@ Completes-stop {t = t} {r = r} q failed c g = c.on t r (stop q failed g)
 pub Completes-end : {F E : Type 0} {fed : F → List ℕ → Type 0} {stops lent : F → ℕ} {first s : F} {whole : List ℕ}
     → Completes E fed stops lent first s whole [] → Gives {T = Unit {0}} {E = E} fed stops lent first s whole (Ok (tt {0}))
 Completes-end {E = E} {fed = fed} {stops = stops} {lent = lent} {s = s} c = c.on s (Ok (tt {0})) (nothing fed stops lent s (tt {0}))
+
+-- two spellings of one text
+pub same_text : {F T E : Type 0} {fed : F → List ℕ → Type 0} {stops : F → ℕ} {lent : F → ℕ} {s t : F} {p q : List ℕ} {r : Result T E}
+    → p ≡ q → Gives fed stops lent s t p r → Gives fed stops lent s t q r
+same_text {fed = fed} {stops = stops} {lent = lent} {s = s} {t = t} {r = r} e g = subst (λ (l : List ℕ). Gives fed stops lent s t l r) e g

@@ -151,3 +151,8 @@ unfolding empty pairs_of
 pairs-empty V = refl
 
 pub ruleset gets = (get-empty, get-insert, get-remove, len-empty, len-insert)
+
+-- what a proof that computes with maps unfolds, under one name
+unfoldable pub computed : Unit {0}
+unfolding pairs_of keys values len get contains empty insert remove if_in_order from_pairs
+computed = tt

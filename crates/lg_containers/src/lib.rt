@@ -20,7 +20,6 @@ pub mod utf8;
 
 pub use address::{AddressGrammar, AddressState};
 pub use asset::{AssetGrammar, AssetState};
-pub use bytes::{is_code_byte, is_word_byte};
 pub use canonical::Canonical;
 pub use counted::{BucketGrammar, CountedState, KeyGrammar, LedgerNameGrammar};
 pub use duplicate::{Duplicate, copy_items};
@@ -59,3 +58,6 @@ pub type Meta = NameMap<TextGrammar, Text>;
 
 /// Metadata of accounts.
 pub type AccountMeta = NameMap<AddressGrammar, Meta>;
+
+#[cfg(test)]
+mod tests;

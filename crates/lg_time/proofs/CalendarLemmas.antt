@@ -1,17 +1,15 @@
 -- The date that lies so many days after 0001-01-01 is the one with that day number.
-use Rattle.std.proofs.Common.{◌≡◌, ℕ, zero, suc, ◌+◌, ◌-◌, ◌*◌, ◌≤◌, ◌<◌, Bool, true, false, cond, nat_lt, refl, sym, ap, ◌∙◌, inl, inr, arith, rules, ℤ, pos, neg_ℤ, negsuc, ◌+ℤ◌, ◌-ℤ◌, ◌<ℤ◌, ◌≤ℤ◌}
+use Rattle.std.proofs.Common.{◌≡◌, ℕ, zero, suc, ◌+◌, ◌≤◌, ◌<◌, true, false, cond, nat_lt, refl, inl, inr, arith, pos, ◌+ℤ◌}
 use Rattle.std.specs.Int.{IsInRange}
 use Rattle.std.proofs.lemmas.Bool.{cases_order}
 use Rattle.std.proofs.lemmas.Bool.Decides.{nat_tests}
-use Rattle.std.proofs.lemmas.Int.{by_lt_z}
-use Rattle.jiff_core.specs.Calendar.{days_from_civil, days_in_month, day_count, IsCivilDate}
+use Rattle.jiff_core.specs.Calendar.{days_from_civil, days_in_month, IsCivilDate}
 use Rattle.jiff_core.specs.Date.{epoch_day}
 use Rattle.jiff_core.specs.declared.civil.date.Date.{Date}
 use Rattle.jiff_core.proofs.SignedLemmas.{signed_arith}
 use Rattle.jiff_core.proofs.MarchLemmas.{day_count-early}
 use Rattle.jiff_core.proofs.CalendarLemmas.{days_from_civil-day_count, day_count-lt_year}
 use Rattle.jiff_core.proofs.DateLemmas.{days_from_civil-day, days_from_civil-next_month, days_from_civil-next_year, days_from_civil-max, epoch_day_injective}
-use Rattle.lg_time.specs.Texts.{IsCalendarDate}
 use Rattle.lg_time.specs.Canonical.{CalendarDate, next_date, date_after}
 
 -- a date of the year 1 or later, with its days from 0001-01-01
@@ -70,7 +68,7 @@ next_is n d h =
 
 pub date_after_is : (n : ℕ) → IsDayAt n (date_after n)
 unfolding date_after
-date_after_is zero = record { year_in = omega arith; month_in = (omega arith, omega arith); day_in = (omega arith, omega arith); counted = first_day; }
+date_after_is zero = record { year_in = omega arith; month_in = (omega arith, omega arith); day_in = (omega arith, omega arith); counted = first_day }
 date_after_is (suc n) = next_is n (date_after n) (date_after_is n)
 
 last_date : IsCivilDate (pos 9999) 12 31

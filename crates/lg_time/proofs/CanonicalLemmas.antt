@@ -1,5 +1,5 @@
 -- The canonical text, and that it stands for its moment.
-use Rattle.std.proofs.Common.{◌≡◌, ◌≢◌, ℕ, zero, suc, ◌+◌, ◌-◌, ◌*◌, ◌/◌, ◌%◌, ◌≤◌, ◌<◌, Bool, true, false, ◌==◌, ◌&&◌, cond, List, [], ◌∷◌, ◌++◌, length, take, drop, get_or, slice_index, nat_le, All, inl, inr, refl, sym, ap, ◌∙◌, arith, rules, ℤ, pos, neg_ℤ, ◌+ℤ◌, ◌-ℤ◌, ◌*ℤ◌, unsigned_abs}
+use Rattle.std.proofs.Common.{◌≡◌, ◌≢◌, ℕ, zero, suc, ◌+◌, ◌-◌, ◌*◌, ◌/◌, ◌%◌, ◌≤◌, ◌<◌, true, false, ◌==◌, ◌&&◌, cond, List, [], ◌∷◌, ◌++◌, length, take, get_or, slice_index, nat_le, All, inl, refl, sym, ap, ◌∙◌, arith, ℤ, pos, ◌+ℤ◌, unsigned_abs}
 use Rattle.std.specs.List.{list_all}
 use Rattle.std.proofs.lemmas.Bool.Decides.{nat_tests}
 use Rattle.std.proofs.Math.Seq.{take-suc, take-append-add}
@@ -64,7 +64,7 @@ cut date time fraction n d t f small =
     let parts : all ≡ front ++ (46 ∷ (fraction ++ 90 ∷ [])) = sym (append_assoc date (84 ∷ time) (46 ∷ (fraction ++ 90 ∷ []))) in
     let size : length all ≡ 27 = ap length parts ∙ omega (arith, length-append front (46 ∷ (fraction ++ 90 ∷ [])), length-append fraction (90 ∷ [])) in
     let head : take (19 + n) all ≡ front ++ take n (46 ∷ fraction) =
-      ap (take (19 + n)) parts ∙ (rw (← long) (take-append-add front (46 ∷ (fraction ++ 90 ∷ [])) n)) ∙ ap (λ (r : List ℕ). front ++ r) (take-append-le n (46 ∷ fraction) (90 ∷ []) (omega arith)) in
+    ap (take (19 + n)) parts ∙ (rw (← long) (take-append-add front (46 ∷ (fraction ++ 90 ∷ [])) n)) ∙ ap (λ (r : List ℕ). front ++ r) (take-append-le n (46 ∷ fraction) (90 ∷ []) (omega arith)) in
     take_more_set all (19 + n) 90 (omega arith) ∙ (rw head (append_assoc front (take n (46 ∷ fraction)) (90 ∷ []) ∙ append_assoc date (84 ∷ time) (take n (46 ∷ fraction) ++ 90 ∷ [])))
 
 -- no digits but zeros
@@ -145,7 +145,7 @@ date_is n small =
       year = (date_after n).year;
       month = (date_after n).month;
       day = (date_after n).day;
-      exists = record { year_in = (h.year_in, date_after-year n small); month_in = h.month_in; day_in = h.day_in; };
+      exists = record { year_in = (h.year_in, date_after-year n small); month_in = h.month_in; day_in = h.day_in };
       written = refl;
       counted = refl;
     }

@@ -1,10 +1,10 @@
 -- The parts of a moment's text, found by their places.
-use Rattle.std.proofs.Common.{Bool, false, IsTrue, rules, ◌≡◌, ℕ, ◌+◌, ◌-◌, ◌*◌, ◌≤◌, ◌<◌, List, [], ◌∷◌, ◌++◌, length, take, drop, refl, sym, ap, subst, ◌∙◌, arith, ℤ, pos, neg_ℤ, ◌+ℤ◌, ◌-ℤ◌, ◌*ℤ◌, length-append, Option, Some, None, Ok, Result, OnSome, IfSome, ◌⊎◌, inl, inr, ◌/◌, ◌%◌, All, get_or, cond, nat_le, replicate, slice_index}
+use Rattle.std.proofs.Common.{Bool, false, IsTrue, rules, ◌≡◌, ℕ, ◌+◌, ◌-◌, ◌*◌, ◌≤◌, List, [], ◌∷◌, ◌++◌, length, take, drop, refl, sym, ap, subst, ◌∙◌, arith, ℤ, pos, neg_ℤ, ◌+ℤ◌, ◌*ℤ◌, length-append, Option, Some, None, Ok, Result, OnSome, IfSome, ◌⊎◌, inl, inr, ◌/◌, ◌%◌, get_or, replicate, slice_index}
 use Rattle.std.proofs.lemmas.List.{take_at, drop_at, take-append-drop}
 use Rattle.jiff_core.specs.Calendar.{days_from_civil}
 use Rattle.std.proofs.Math.Seq.{take-length}
-use Rattle.lg_time.specs.Texts.{two_digits, date_text, decimal, IsCalendarDate}
-use Rattle.lg_time.specs.Moment.{IsMoment, rounded, IsDate, IsTime, IsEnd, IsFraction, IsZone, IsOffset, IsInMoments}
+use Rattle.lg_time.specs.Texts.{two_digits, decimal, IsCalendarDate}
+use Rattle.lg_time.specs.Moment.{IsMoment, IsDate, IsTime, IsEnd, IsFraction, IsZone, IsOffset, IsInMoments}
 use Rattle.lg_time.specs.Moment.IsZone.{utc, east, west}
 
 pub length-date : (text : List ℕ) (number : ℤ) → IsDate text number → length text ≡ 10

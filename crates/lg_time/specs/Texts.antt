@@ -1,5 +1,5 @@
 -- The texts of numbers, dates and clock times: RFC 3339, section 5.6.
-use Rattle.std.specs.Prelude.{ℕ, ◌+◌, ◌-◌, ◌*◌, ◌/◌, ◌%◌, ◌≤◌, List, [], ◌∷◌, ◌++◌, fold, pos}
+use Rattle.std.specs.Prelude.{ℕ, ◌+◌, ◌-◌, ◌*◌, ◌/◌, ◌%◌, List, [], ◌∷◌, ◌++◌, fold, pos}
 use Rattle.std.specs.Int.{IsInRange}
 use Rattle.jiff_core.specs.Calendar.{days_in_month}
 

@@ -1,12 +1,11 @@
 ghost use Rattle.std.specs.Prelude.{◌≡◌, pos, ◌+ℤ◌, unsigned_abs, ◌≤◌, ◌<◌, List, [], ◌∷◌, ◌++◌, take};
+ghost use Rattle.std.specs.Int.{IsInRange};
 ghost use Rattle.lg_time.specs.Texts.{two_digits as text_of_two, six_digits as text_of_six};
 ghost use Rattle.lg_time.specs.Moment.{IsMoment, IsInMoments};
 ghost use Rattle.lg_time.specs.Canonical.{date_after, text_of_date, text_of_seconds, text_of_fraction, without_trailing_zeros, moment_text};
 
+use crate::range::FIRST_MOMENT;
 use jiff_core::civil::Date;
-
-/// The microseconds from 0001-01-01T00:00:00Z to 1970-01-01T00:00:00Z.
-const BEFORE_EPOCH: i64 = 62_135_596_800_000_000;
 
 /// The microseconds of a day.
 const DAY: u64 = 86_400_000_000;
@@ -20,7 +19,7 @@ const BEFORE_YEAR_1: u32 = 3_652_425;
 /// that is not 0, where there are any, and `Z`. The bytes after it are of no meaning.
 pub fn print_moment(moment: i64, into: &mut [u8; 27]) -> usize
     requires { IsInMoments moment }
-    ensures bound { result ≤ 27 }
+    ensures bound { IsInRange 20 27 result }
     ensures text { take result into.new ≡ moment_text moment }
     ensures reads_back { IsMoment (take result into.new) moment }
 {
@@ -41,7 +40,7 @@ fn elapsed(moment: i64) -> u64
     ensures value { result ≡ unsigned_abs (moment +ℤ pos 62135596800000000) }
     ensures bound { result < 315537897600000000 }
 {
-    (moment + BEFORE_EPOCH) as u64
+    (moment - FIRST_MOMENT) as u64
 }
 
 /// The text with all six digits of the fraction.

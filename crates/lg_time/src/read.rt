@@ -2,8 +2,9 @@ ghost use Rattle.std.specs.Prelude.{◌≡◌, ◌≢◌, ◌⊎◌, ◌↔◌, 
 ghost use Rattle.jiff_core.specs.Calendar.{days_from_civil, IsBetween};
 ghost use Rattle.std.specs.Char.{IsAsciiDigit};
 ghost use Rattle.lg_time.specs.Texts.{two_digits, IsCalendarDate};
-ghost use Rattle.lg_time.specs.Moment.{IsInMoments, IsMoment, IsDate, IsTime, IsEnd, IsFraction, IsZone, IsOffset, rounded};
+ghost use Rattle.lg_time.specs.Moment.{IsMoment, IsDate, IsTime, IsEnd, IsFraction, IsZone, IsOffset, rounded};
 
+use crate::range::is_moment;
 use jiff_core::civil::Date;
 use thiserror::Error;
 
@@ -14,12 +15,6 @@ pub struct BadMoment;
 
 /// The microseconds of a day.
 const DAY: i64 = 86_400_000_000;
-
-/// The first moment, 0001-01-01T00:00:00Z.
-const FIRST: i64 = -62_135_596_800_000_000;
-
-/// The last moment, 9999-12-31T23:59:59.999999Z.
-const LAST: i64 = 253_402_300_799_999_999;
 
 /// The moment that a text stands for, to the nearest microsecond.
 ///
@@ -50,18 +45,11 @@ fn moment_of(bytes: &[u8]) -> Option<i64>
     let seconds = read_time(time)?;
     let added = read_end(rest)?;
     let moment = moment_at(number, seconds, added);
-    if is_in_moments(moment) {
+    if is_moment(moment) {
         Some(moment)
     } else {
         None
     }
-}
-
-/// Whether a number of microseconds is that of a moment.
-fn is_in_moments(moment: i64) -> bool
-    ensures { IsTrue result ↔ IsInMoments moment }
-{
-    (FIRST..=LAST).contains(&moment)
 }
 
 /// The moment of a day and a time of day, and what is added to them.

@@ -1,4 +1,4 @@
-use Rattle.std.proofs.Common.{◌≡◌, ◌∙◌, arith, rules, ap, length, FitsSigned, w64}
+use Rattle.std.proofs.Common.{◌∙◌, rules, ap, length, FitsSigned, w64}
 use Rattle.std.proofs.lemmas.Int.{to_z-of_z}
 use Rattle.lg_time.specs.Canonical.{text_after}
 use Rattle.lg_time.proofs.CanonicalLemmas.{cut, text_of_parts, moment_text_is}

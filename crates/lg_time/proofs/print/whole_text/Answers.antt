@@ -1,4 +1,4 @@
-use Rattle.std.proofs.Common.{◌≡◌, get_or, List, [], ◌∷◌, refl, arith}
+use Rattle.std.proofs.Common.{get_or, [], ◌∷◌, refl, arith}
 use Rattle.std.proofs.lemmas.Slice.Eq.{text_from_reads}
 use Rattle.lg_time.proofs.CanonicalLemmas.{whole}
 use Rattle.lg_time.proofs.print.whole_text.Goals as goal

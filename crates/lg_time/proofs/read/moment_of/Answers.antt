@@ -1,6 +1,6 @@
-use Rattle.std.proofs.Common.{◌≡◌, ℕ, ℤ, pos, ◌+ℤ◌, ◌*ℤ◌, arith, rules, ap, sym, ◌∙◌, Some, None, take, drop, IsTrue}
+use Rattle.std.proofs.Common.{◌≡◌, arith, take, drop, IsTrue}
 use Rattle.std.proofs.lemmas.Int.{ints}
-use Rattle.lg_time.specs.Moment.{IsDate, IsTime, IsEnd, IsMoment}
+use Rattle.lg_time.specs.Moment.{IsDate, IsTime, IsEnd}
 use Rattle.lg_time.proofs.ReadLemmas.{places, at_places, never, same_some, as_some, refuted}
 use Rattle.lg_time.proofs.read.moment_of.Goals as goal
 
@@ -22,16 +22,16 @@ returns-in_err-added-clause-only c = λ m h.
     let t : IsEnd c.split_at-2.result.1.now p.added = rw (c.split_at-2.ensures.back, c.split_at.ensures.back) p.end_is in
     never p.added (c.in_err-added.ensures.only p.added t)
 
-pub returns-then-is_in_moments-clause-value : goal.returns-then-is_in_moments-clause-value
-returns-then-is_in_moments-clause-value c =
+pub returns-then-is_moment-clause-value : goal.returns-then-is_moment-clause-value
+returns-then-is_moment-clause-value c =
     let d : IsDate (take 10 c.args.bytes.now) c.in_ok-number.number = rw c.split_at.ensures.front at c.in_ok-number.ensures.value in
     let t : IsTime (take 9 (drop 10 c.args.bytes.now)) c.in_ok-seconds.seconds = rw (c.split_at-2.ensures.front, c.split_at.ensures.back) at c.in_ok-seconds.ensures.value in
     let e : IsEnd (drop 9 (drop 10 c.args.bytes.now)) c.in_ok-added.added = rw (c.split_at-2.ensures.back, c.split_at.ensures.back) at c.in_ok-added.ensures.value in
-    let r = c.is_in_moments.ensures.0 c.if-is_in_moments.true in
+    let r = c.is_moment.ensures.0 c.if-is_moment.true in
     at_places _ _ _ _ _ d t e (omega (arith, ints)) (omega (arith, ints, r.0), omega (arith, ints, r.1))
 
-pub returns-then-is_in_moments-clause-only : goal.returns-then-is_in_moments-clause-only
-returns-then-is_in_moments-clause-only c = λ m h.
+pub returns-then-is_moment-clause-only : goal.returns-then-is_moment-clause-only
+returns-then-is_moment-clause-only c = λ m h.
     let p = places _ _ h in
     let d : IsDate c.split_at.result.0.now p.number = rw c.split_at.ensures.front p.date_is in
     let t : IsTime c.split_at-2.result.0.now p.seconds = rw (c.split_at-2.ensures.front, c.split_at.ensures.back) p.time_is in
@@ -42,8 +42,8 @@ returns-then-is_in_moments-clause-only c = λ m h.
     let v = p.value in
     as_some _ _ (omega (arith, ints))
 
-pub returns-else-is_in_moments-clause-only : goal.returns-else-is_in_moments-clause-only
-returns-else-is_in_moments-clause-only c = λ m h.
+pub returns-else-is_moment-clause-only : goal.returns-else-is_moment-clause-only
+returns-else-is_moment-clause-only c = λ m h.
     let p = places _ _ h in
     let d : IsDate c.split_at.result.0.now p.number = rw c.split_at.ensures.front p.date_is in
     let t : IsTime c.split_at-2.result.0.now p.seconds = rw (c.split_at-2.ensures.front, c.split_at.ensures.back) p.time_is in
@@ -53,5 +53,5 @@ returns-else-is_in_moments-clause-only c = λ m h.
     let a = same_some _ _ (c.in_ok-added.ensures.only p.added e) in
     let v = p.value in
     let same : c.moment_at-moment.result ≡ m = omega (arith, ints) in
-    let i : IsTrue c.is_in_moments.result = c.is_in_moments.ensures.1 (omega (arith, ints, p.in_range.0), omega (arith, ints, p.in_range.1)) in
-    refuted i c.if-is_in_moments.false
+    let i : IsTrue c.is_moment.result = c.is_moment.ensures.1 (omega (arith, ints, p.in_range.0), omega (arith, ints, p.in_range.1)) in
+    refuted i c.if-is_moment.false

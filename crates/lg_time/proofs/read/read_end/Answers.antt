@@ -1,4 +1,4 @@
-use Rattle.std.proofs.Common.{◌≡◌, ◌≤◌, ◌-◌, length, arith, take, drop}
+use Rattle.std.proofs.Common.{arith}
 use Rattle.std.proofs.lemmas.Int.{ints}
 use Rattle.lg_time.specs.Moment.{IsFraction, IsZone}
 use Rattle.lg_time.proofs.ReadLemmas.{end_front, never, same_some, as_some}

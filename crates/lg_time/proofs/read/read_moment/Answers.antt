@@ -1,4 +1,4 @@
-use Rattle.std.proofs.Common.{◌≡◌, Some, None, arith}
+use Rattle.std.proofs.Common.{arith}
 use Rattle.std.proofs.lemmas.Int.{ints}
 use Rattle.lg_time.proofs.ReadLemmas.{never, same_ok}
 use Rattle.lg_time.proofs.read.read_moment.Goals as goal
