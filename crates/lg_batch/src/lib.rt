@@ -1,0 +1,4 @@
+//! Scripts of requests: reading them, running them on one thread, and writing what came of them.
+#![tactic(auto)]
+
+mod totals;
