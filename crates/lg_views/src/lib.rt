@@ -2,12 +2,16 @@
 #![tactic(auto)]
 
 mod answers;
+mod decided;
 mod items;
+mod lines;
 mod replies;
 mod views;
 
 pub use answers::Answer;
+pub use decided::{Decided, Written};
 pub use items::Items;
+pub use lines::ScriptLine;
 pub use lg_types::{NoMemory, Volumes};
 pub use replies::{BulkItem, BulkView, Action, Content, PageView, Reply};
 pub use views::{AccountView, BalanceItem, TransactionView, VolumeItem};
