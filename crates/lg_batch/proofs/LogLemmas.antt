@@ -1,11 +1,16 @@
 -- The log of the one ledger, and the outcome of a creation on it.
-use Rattle.std.proofs.Common.{◌≡◌, ℕ, ℤ, ◌+◌, ◌-◌, Bool, true, false, List, [], ◌∷◌, ◌++◌, map, length, refl, sym, ◌∙◌, ap, subst, arith, add-one}
+use Rattle.std.proofs.Common.{◌≡◌, ℕ, ℤ, ◌+◌, ◌-◌, Bool, true, false, List, [], ◌∷◌, ◌++◌, map, length, refl, sym, ◌∙◌, ap, subst, arith, sub-one}
 use Rattle.std.specs.Prelude.{Option, Some, None, slice_get, codes}
 use Rattle.std.specs.List.{last_or, flat_map}
 use Rattle.std.proofs.lemmas.List.{map-append, append-nil}
 use Rattle.std.proofs.lemmas.List.Concat.{flat_map-append}
 use Rattle.lg_containers.specs.NameTable as table
 use Rattle.lg_types.specs.declared.calls.Call.{Call}
+use Rattle.lg_types.specs.declared.calls.Call.TheVariants.{Unreadable}
+use Rattle.lg_types.specs.declared.calls.Write.{Write}
+use Rattle.lg_types.specs.declared.calls.Write.TheVariants.{Create}
+use Rattle.lg_types.specs.declared.records.EntryBody.{EntryBody}
+use Rattle.lg_types.specs.declared.records.EntryBody.TheVariants.{NewTransaction}
 use Rattle.lg_types.specs.declared.records.Posting.{Posting}
 use Rattle.lg_types.specs.declared.records.Entry.{Entry}
 use Rattle.lg_types.specs.declared.records.Event.{Event}
@@ -13,7 +18,7 @@ use Rattle.lg_types.specs.declared.records.Event.TheVariants.{Made, Logged}
 use Rattle.lg_types.specs.declared.refusals.Refusal.{Refusal}
 use Rattle.lg_types.specs.declared.forms.EntryForm.{EntryForm}
 use Rattle.lg_types.specs.declared.forms.EntryForm.TheVariants.{Chained}
-use Rattle.lg_types.specs.Lists.{or_else}
+use Rattle.lg_types.specs.Lists.{or_else, last_of}
 use Rattle.lg_types.specs.Log.{log, logged, first_ledger, is_there}
 use Rattle.lg_types.specs.Chain.{line_hash}
 use Rattle.lg_types.specs.Known.{date, transactions}
@@ -23,7 +28,8 @@ use Rattle.lg_views.specs.declared.replies.Reply.{Reply}
 use Rattle.lg_views.specs.Outcome.{outcome, on_ledger}
 use Rattle.lg_views.specs.Replies.{plain, refused}
 use Rattle.lg_views.specs.Writes.{write_answer, appended_if, granted_unless, written, first_reply, new_transaction}
-use Rattle.lg_batch.specs.Plain.{the_ledger, events_of_log, creation, created_entry}
+use Rattle.lg_batch.specs.Totals.{the_ledger}
+use Rattle.lg_batch.specs.Plain.{IsPlain, entry_after, events_of_log, creation, created_entry}
 
 last_cons : {A : Type 0} (o : Option A) (x : A) (xs : List A) → last_or o (x ∷ xs) ≡ slice_get (x ∷ xs) (length xs)
 last_cons o x [] = refl
@@ -32,7 +38,7 @@ last_cons o x (y ∷ ys) = last_cons (Some x) y ys
 -- the last item is the one at the last place
 pub last-slice_get : {A : Type 0} (xs : List A) → last_or None xs ≡ slice_get xs (length xs - 1)
 last-slice_get [] = refl
-last-slice_get (x ∷ xs) = last_cons None x xs
+last-slice_get (x ∷ xs) = last_cons None x xs ∙ ap (λ (n : ℕ). slice_get (x ∷ xs) n) (sym (sub-one (length xs)))
 
 logged_all : (g : List Entry) → flat_map (logged the_ledger) (map (Logged the_ledger) g) ≡ g
 logged_all [] = refl
@@ -56,8 +62,10 @@ pub creation_refused : (g : List Entry) (ps : List Posting) (timestamp : Option 
     → trial g ps false ≡ Some r → (refused r, []) ≡ outcome (events_of_log g) (creation ps timestamp) now
 unfolding outcome
 creation_refused g ps timestamp now r e =
-    sym (ap (λ (h : List Entry). on_ledger the_ledger (write_answer h (written h None _ now))) (log_of_events g)
-      ∙ ap (λ (t : Option Refusal). on_ledger the_ledger (write_answer g (appended_if g (date g now) None (granted_unless (or_else t None) _)))) e)
+    let write : Write = Create ps None timestamp table.empty table.empty false in
+    let body : EntryBody = NewTransaction (new_transaction g (date g now) ps table.empty None timestamp) table.empty in
+    sym (ap (λ (h : List Entry). on_ledger the_ledger (write_answer h (written h None write now))) (log_of_events g)
+      ∙ ap (λ (t : Option Refusal). on_ledger the_ledger (write_answer g (appended_if g (date g now) None (granted_unless (or_else t None) body)))) e)
 
 -- a creation that the trial accepts
 pub creation_accepted : (g : List Entry) (ps : List Posting) (timestamp : Option ℤ) (now : ℤ)
@@ -65,5 +73,17 @@ pub creation_accepted : (g : List Entry) (ps : List Posting) (timestamp : Option
     → (plain (first_reply (g ++ created_entry g ps timestamp now ∷ []) (created_entry g ps timestamp now)), Logged the_ledger (created_entry g ps timestamp now) ∷ []) ≡ outcome (events_of_log g) (creation ps timestamp) now
 unfolding outcome
 creation_accepted g ps timestamp now e =
-    sym (ap (λ (h : List Entry). on_ledger the_ledger (write_answer h (written h None _ now))) (log_of_events g)
-      ∙ ap (λ (t : Option Refusal). on_ledger the_ledger (write_answer g (appended_if g (date g now) None (granted_unless (or_else t None) _)))) e)
+    let write : Write = Create ps None timestamp table.empty table.empty false in
+    let body : EntryBody = NewTransaction (new_transaction g (date g now) ps table.empty None timestamp) table.empty in
+    sym (ap (λ (h : List Entry). on_ledger the_ledger (write_answer h (written h None write now))) (log_of_events g)
+      ∙ ap (λ (t : Option Refusal). on_ledger the_ledger (write_answer g (appended_if g (date g now) None (granted_unless (or_else t None) body)))) e)
+
+-- a request that can't be read
+pub unreadable_refused : (events : List Event) (r : Refusal) (now : ℤ) → (refused r, []) ≡ outcome events (Unreadable r) now
+unfolding outcome
+unreadable_refused events r now = refl
+
+-- the entry by the log, and by its length and its last entry
+pub entry_after_log : (g : List Entry) (ps : List Posting) (timestamp : Option ℤ) (now : ℤ)
+    → length (transactions g) ≡ length g → entry_after (length g) (last_of g) ps timestamp now ≡ created_entry g ps timestamp now
+entry_after_log g ps timestamp now e = rw (sym e) refl

@@ -1,26 +1,34 @@
 //! The next entry of a log.
 
-ghost use Rattle.std.specs.Prelude.{◌≡◌, length, replicate, None, IfOk, int_lt, if◌then◌else◌};
-ghost use Rattle.std.specs.Option.{unwrap_or};
+ghost use Rattle.std.specs.Prelude.{◌≡◌, ◌+◌, ◌^◌, ◌<◌, replicate, None, IfOk, int_lt, if◌then◌else◌};
+ghost use Rattle.std.specs.Option.{unwrap_or, option_copied, option_map};
 ghost use Rattle.lg_containers.specs.NameTable.{empty};
-ghost use Rattle.lg_types.specs.Chain.{head};
-ghost use Rattle.lg_types.specs.Known.{date as date_of, transactions};
-ghost use Rattle.lg_batch.specs.Plain.{created_entry};
+ghost use Rattle.lg_types.specs.Chain.{entry_hash};
+ghost use Rattle.lg_types.specs.Known.{date_after};
+ghost use Rattle.lg_batch.specs.Plain.{entry_after};
 
 use std::alloc::Global;
 
 use lg_chain::seal;
 use lg_types::{AccountMeta, Duplicate, Entry, EntryBody, Meta, NoMemory, Postings, Transaction, bring};
 
-/// The entry of a creation with these postings: the next ids, the date brought to the last entry's, and the chain's hash.
-pub fn created(alloc: Global, log: &[Entry], postings: &Postings, timestamp: &Option<i64>, now: &i64) -> Result<Entry, NoMemory>
-    requires { length (transactions log.now) ≡ length log.now }
-    ensures { IfOk result (λ e. e ≡ created_entry log.now postings.now timestamp.now now.now) }
+/// The entry of a creation with these postings after a log of so many entries: the next ids, the date brought to the
+/// last entry's, and the chain's hash.
+pub fn created(
+    alloc: Global,
+    count: u64,
+    last: Option<&Entry>,
+    postings: &Postings,
+    timestamp: &Option<i64>,
+    now: &i64,
+) -> Result<Entry, NoMemory>
+    requires { count + 1 < 2 ^ 64 }
+    ensures { IfOk result (λ e. e ≡ entry_after count (option_copied last.entry) postings.now timestamp.now now.now) }
 {
-    let id = log.len() as u64 + 1;
-    let date = next_date(log, now);
+    let id = count + 1;
+    let date = next_date(last, now);
     let entry = unsealed(id, &date, transaction(alloc, id, postings, timestamp, &date)?, AccountMeta::new(alloc));
-    let hash = seal(last_hash(log), &entry);
+    let hash = seal(last_hash(last), &entry);
     Ok(sealed(entry, hash))
 }
 
@@ -50,18 +58,18 @@ fn unsealed(id: u64, date: &i64, transaction: Transaction, accounts: AccountMeta
 
 /// The entry with this hash.
 fn sealed(entry: Entry, hash: [u8; 32]) -> Entry
-    ensures { result ≡ record entry { hash = hash.entry } }
+    ensures { result ≡ record entry { hash = hash } }
 {
     let Entry { id, date, mark, body, hash: _ } = entry;
     Entry { id, date, mark, body, hash }
 }
 
 /// The moment brought into the range of moments, and never before the last entry's date.
-fn next_date(log: &[Entry], now: &i64) -> i64
-    ensures { result ≡ date_of log.now now.now }
+fn next_date(last: Option<&Entry>, now: &i64) -> i64
+    ensures { result ≡ date_after (option_copied last.entry) now.now }
 {
     let moment = bring(now);
-    match log.last() {
+    match last {
         Some(last) => later(&moment, &last.date),
         None => moment,
     }
@@ -74,10 +82,10 @@ fn later(moment: &i64, date: &i64) -> i64
 }
 
 /// The hash of the last entry.
-fn last_hash(log: &[Entry]) -> Option<[u8; 32]>
-    ensures { result ≡ head log.now }
+fn last_hash(last: Option<&Entry>) -> Option<[u8; 32]>
+    ensures { result ≡ option_map entry_hash (option_copied last.entry) }
 {
-    match log.last() {
+    match last {
         Some(last) => Some(last.hash),
         None => None,
     }

@@ -3,14 +3,15 @@
 ghost use Rattle.std.specs.Prelude.{◌≡◌, ◌++◌, ◌^◌, ◌<◌, None, false, IfOk};
 ghost use Rattle.std.specs.List.{flat_map};
 ghost use Rattle.lg_base.specs.Volumes.{IsWithinLimit};
+ghost use Rattle.lg_types.specs.Log.{log};
 ghost use Rattle.lg_types.specs.Moves.{moves};
 ghost use Rattle.lg_types.specs.Trial.{tried_moves, trial};
-ghost use Rattle.lg_batch.specs.Totals.{AreWithin};
+ghost use Rattle.lg_batch.specs.Totals.{the_ledger, AreWithin};
 ghost use Rattle.lg_batch.specs.Tried.{tried, lacks_of, passes_of};
 
 use std::alloc::Global;
 
-use lg_types::{Duplicate, Entry, NoMemory, Posting, Refusal, Volumes};
+use lg_types::{Duplicate, Event, NoMemory, Posting, Refusal, Volumes};
 
 use crate::totals::lent_total;
 
@@ -18,13 +19,13 @@ use crate::totals::lent_total;
 const LIMIT: u128 = 170141183460469231731687303715884105727;
 
 /// The first posting that lacks funds or passes the limit after the log, and none where all can be booked.
-pub fn try_postings(alloc: Global, log: &[Entry], postings: &[Posting]) -> Result<Option<Refusal>, NoMemory>
-    requires { AreWithin (moves log.now) }
-    ensures value { IfOk result (λ r. r ≡ trial log.now postings.now false) }
-    ensures within { IfOk result (λ r. r ≡ None → AreWithin (moves log.now ++ flat_map tried_moves postings.now)) }
+pub fn try_postings(alloc: Global, events: &[Event], postings: &[Posting]) -> Result<Option<Refusal>, NoMemory>
+    requires { AreWithin (moves (log events.now the_ledger)) }
+    ensures value { IfOk result (λ r. r ≡ trial (log events.now the_ledger) postings.now false) }
+    ensures within { IfOk result (λ r. r ≡ None → AreWithin (moves (log events.now the_ledger) ++ flat_map tried_moves postings.now)) }
 {
     for (place, posting) in postings.iter().enumerate() {
-        match try_posting(alloc, log, &postings[..place], place, posting)? {
+        match try_posting(alloc, events, &postings[..place], place, posting)? {
             Some(refusal) => return Ok(Some(refusal)),
             None => {}
         }
@@ -35,19 +36,19 @@ pub fn try_postings(alloc: Global, log: &[Entry], postings: &[Posting]) -> Resul
 /// The trial of one posting after the log and the postings before it.
 fn try_posting(
     alloc: Global,
-    log: &[Entry],
+    events: &[Event],
     before: &[Posting],
     place: usize,
     posting: &Posting,
 ) -> Result<Option<Refusal>, NoMemory>
-    requires { AreWithin (moves log.now ++ flat_map tried_moves before.now) }
-    ensures { IfOk result (λ r. r ≡ tried (moves log.now ++ flat_map tried_moves before.now) place posting.now) }
+    requires { AreWithin (moves (log events.now the_ledger) ++ flat_map tried_moves before.now) }
+    ensures { IfOk result (λ r. r ≡ tried (moves (log events.now the_ledger) ++ flat_map tried_moves before.now) place posting.now) }
 {
-    let source = lent_total(log, before, posting.source.bytes(), posting.asset.bytes());
+    let source = lent_total(events, before, posting.source.bytes(), posting.asset.bytes());
     if is_lacking(&source, posting) {
         return Ok(Some(lack(alloc, place, posting, source.balance())?));
     }
-    let destination = lent_total(log, before, posting.destination.bytes(), posting.asset.bytes());
+    let destination = lent_total(events, before, posting.destination.bytes(), posting.asset.bytes());
     if is_past(source.output, posting) || is_past(destination.input, posting) {
         return Ok(Some(Refusal::Limit { posting: place as u64 }));
     }
