@@ -1,3 +1,4 @@
 pub mod LogLemmas
+pub mod PlainLemmas
 pub mod TotalLemmas
 pub mod TrialLemmas

@@ -17,7 +17,7 @@ use Rattle.lg_types.specs.Moves.{Placed, moves, total, posting_moves}
 use Rattle.lg_types.specs.Trial.{passes_limit, lacks, is_over, tried_moves, trial_from, trial}
 use Rattle.lg_batch.specs.Totals.{posting_in, posting_out, AreWithin}
 use Rattle.lg_batch.specs.Tried.{tried}
-use Rattle.lg_batch.proofs.TotalLemmas.{move_in, move_out, total-in, total-out, posting_moves-in, posting_moves-out}
+use Rattle.lg_batch.proofs.TotalLemmas.{move_in, move_out, total-in, total-out, posting_moves-in, posting_moves-out, all_moves-in, all_moves-out}
 
 -- a posting that comes to nothing isn't over
 not_over : (b c : Bool) (r s : Refusal) → cond b (Some r) (cond c (Some s) None) ≡ None → c ≡ false
@@ -81,6 +81,53 @@ pub next_moves : (ms : List Placed) (ps : List Posting) (i : ℕ) (p : Posting) 
 next_moves ms ps i p h is =
     append_assoc ms (flat_map tried_moves (take i ps)) (tried_moves p)
     ∙ ap (λ (l : List Placed). ms ++ l)
-        (ap (λ (l : List Placed). flat_map tried_moves (take i ps) ++ l) (sym (append-nil (tried_moves p)))
-        ∙ sym (flat_map-append tried_moves (take i ps) (p ∷ []))
-        ∙ ap (λ (l : List Posting). flat_map tried_moves l) (sym (take_more ps i p h ∙ ap (λ (q : Posting). take i ps ++ q ∷ []) (sym is))))
+    (ap (λ (l : List Placed). flat_map tried_moves (take i ps) ++ l) (sym (append-nil (tried_moves p)))
+    ∙ sym (flat_map-append tried_moves (take i ps) (p ∷ []))
+    ∙ ap (λ (l : List Posting). flat_map tried_moves l) (sym (take_more ps i p h ∙ ap (λ (q : Posting). take i ps ++ q ∷ []) (sym is))))
+
+left_here : (ps : List Posting) (i : ℕ) (p : Posting) → i < length ps → p ≡ get_or ps i p → drop i ps ≡ p ∷ drop (i + 1) ps
+left_here ps i p h is = drop_more ps i p h ∙ ap (λ (q : Posting). q ∷ drop (i + 1) ps) (sym is)
+
+-- the loop over the postings ends at one that comes to something
+pub trial_ends_here : (ms : List Placed) (ps : List Posting) (i : ℕ) (p : Posting) (x : Refusal) (whole : Option Refusal)
+    → i < length ps → p ≡ get_or ps i p → tried (ms ++ flat_map tried_moves (take i ps)) i p ≡ Some x
+    → trial_from (ms ++ flat_map tried_moves (take i ps)) i (drop i ps) false ≡ whole → Some x ≡ whole
+trial_ends_here ms ps i p x whole h is e rest =
+    sym (ap (λ (l : List Posting). trial_from (ms ++ flat_map tried_moves (take i ps)) i l false) (left_here ps i p h is) ∙ trial_ends (ms ++ flat_map tried_moves (take i ps)) i p (drop (i + 1) ps) x e) ∙ rest
+
+-- and goes on after one that comes to nothing
+pub trial_goes_here : (ms : List Placed) (ps : List Posting) (i : ℕ) (p : Posting) (whole : Option Refusal)
+    → i < length ps → p ≡ get_or ps i p → tried (ms ++ flat_map tried_moves (take i ps)) i p ≡ None
+    → trial_from (ms ++ flat_map tried_moves (take i ps)) i (drop i ps) false ≡ whole
+    → trial_from (ms ++ flat_map tried_moves (take (i + 1) ps)) (i + 1) (drop (i + 1) ps) false ≡ whole
+trial_goes_here ms ps i p whole h is e rest =
+    ap (λ (l : List Placed). trial_from l (i + 1) (drop (i + 1) ps) false) (sym (next_moves ms ps i p h is))
+    ∙ sym (trial_goes_on (ms ++ flat_map tried_moves (take i ps)) i p (drop (i + 1) ps) e)
+    ∙ ap (λ (l : List Posting). trial_from (ms ++ flat_map tried_moves (take i ps)) i l false) (sym (left_here ps i p h is))
+    ∙ rest
+
+pub within_goes_here : (ms : List Placed) (ps : List Posting) (i : ℕ) (p : Posting)
+    → i < length ps → p ≡ get_or ps i p → tried (ms ++ flat_map tried_moves (take i ps)) i p ≡ None
+    → AreWithin (ms ++ flat_map tried_moves (take i ps)) → AreWithin (ms ++ flat_map tried_moves (take (i + 1) ps))
+within_goes_here ms ps i p h is e within =
+    subst (λ (l : List Placed). AreWithin l) (next_moves ms ps i p h is) (stays_within (ms ++ flat_map tried_moves (take i ps)) i p within e)
+
+-- moves of the same postings with other ids and dates have the same totals
+pub same_totals : (ms : List Placed) (ps : List Posting) (id : ℕ) (inserted effective : ℤ)
+    → AreWithin (ms ++ flat_map tried_moves ps) → AreWithin (ms ++ flat_map (posting_moves id inserted effective) ps)
+same_totals ms ps id inserted effective within = record {
+  each = λ account asset. record {
+    input = subst (λ (n : ℕ). n < 2 ^ 127)
+        (total-in account asset (ms ++ flat_map tried_moves ps) ∙ sum_by-append (move_in account asset) ms (flat_map tried_moves ps)
+        ∙ ap (λ (n : ℕ). sum_by (move_in account asset) ms + n) (all_moves-in account asset 0 (pos 0) (pos 0) ps ∙ sym (all_moves-in account asset id inserted effective ps))
+        ∙ sym (sum_by-append (move_in account asset) ms (flat_map (posting_moves id inserted effective) ps))
+        ∙ sym (total-in account asset (ms ++ flat_map (posting_moves id inserted effective) ps)))
+        (within.each account asset).input;
+    output = subst (λ (n : ℕ). n < 2 ^ 127)
+        (total-out account asset (ms ++ flat_map tried_moves ps) ∙ sum_by-append (move_out account asset) ms (flat_map tried_moves ps)
+        ∙ ap (λ (n : ℕ). sum_by (move_out account asset) ms + n) (all_moves-out account asset 0 (pos 0) (pos 0) ps ∙ sym (all_moves-out account asset id inserted effective ps))
+        ∙ sym (sum_by-append (move_out account asset) ms (flat_map (posting_moves id inserted effective) ps))
+        ∙ sym (total-out account asset (ms ++ flat_map (posting_moves id inserted effective) ps)))
+        (within.each account asset).output;
+  };
+}

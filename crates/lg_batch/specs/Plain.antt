@@ -1,7 +1,8 @@
 -- What the plain ledger keeps.
-use Rattle.std.specs.Prelude.{◌≡◌, ℕ, ◌+◌, ℤ, Bool, false, List, [], ◌∷◌, ◌++◌, map, length, Option, None, codes}
+use Rattle.std.specs.Prelude.{◌≡◌, ℕ, ◌+◌, ℤ, Bool, false, List, [], ◌∷◌, ◌++◌, map, length, Option, Some, None}
 use Rattle.std.specs.Option.{option_map, unwrap_or}
 use Rattle.lg_containers.specs.NameTable as table
+use Rattle.lg_containers.specs.NameTable.{NameTable}
 use Rattle.lg_types.specs.declared.calls.Call.{Call}
 use Rattle.lg_types.specs.declared.calls.Call.TheVariants as call
 use Rattle.lg_types.specs.declared.calls.Write.TheVariants as write
@@ -51,5 +52,13 @@ unsealed_entry id date postings timestamp = record { id = id; date = date; mark 
 abbrev pub entry_after : ℕ → Option Entry → List Posting → Option ℤ → ℤ → Entry
 entry_after count last postings timestamp now =
     record (unsealed_entry (count + 1) (date_after last now) postings timestamp) {
-      hash = line_hash Chained (option_map entry_hash last) (unsealed_entry (count + 1) (date_after last now) postings timestamp)
+      hash = line_hash Chained (option_map entry_hash last) (unsealed_entry (count + 1) (date_after last now) postings timestamp);
     }
+
+abbrev pub AccountMetaOf : Type 0
+AccountMetaOf = NameTable (NameTable (List ℕ))
+
+-- the entry that an event logged
+abbrev pub event_entry : Event → Option Entry
+event_entry (Made info) = None
+event_entry (Logged ledger e) = Some e

@@ -1,22 +1,23 @@
 //! The plain ledger: a list of events, and nothing beside it. Whatever it has to know it finds by going through the list.
 
-ghost use Rattle.std.specs.Prelude.{◌≡◌, ◌⊎◌, IfOk, OnErr, codes};
+ghost use Rattle.std.specs.Prelude.{◌≡◌, ◌⊎◌, ◌-◌, ◌<◌, length, IfOk, OnErr, codes};
 ghost use Rattle.std.specs.Option.{option_copied};
 ghost use Rattle.lg_types.specs.Lists.{last_of};
 ghost use Rattle.lg_types.specs.Log.{log, first_events, first_ledger as first_info};
 ghost use Rattle.lg_batch.specs.Totals.{the_ledger};
-ghost use Rattle.lg_batch.specs.Plain.{IsPlain, creation};
+ghost use Rattle.lg_batch.specs.Plain.{IsPlain, creation, event_entry, entry_after};
 ghost use Rattle.lg_batch.specs.Running.{Takes};
-
-use std::alloc::Global;
-use std::marker::Model;
-
-use lg_types::{Bucket, Call, Duplicate, Entry, Event, LedgerInfo, LedgerName, Meta, NameFault, NoMemory, Postings, Refusal, Write};
 
 use crate::ledger::Ledger;
 use crate::new_entry::created;
 use crate::taken::Taken;
 use crate::trial::try_postings;
+use lg_types::{
+    Bucket, Call, Duplicate, Entry, Event, LedgerInfo, LedgerName, Meta, NameFault, NoMemory,
+    Postings, Refusal, Write,
+};
+use std::alloc::Global;
+use std::marker::Model;
 
 /// The ledger `default`, seen as the list of all events.
 #[derive(Drop)]
@@ -85,14 +86,38 @@ fn append_creation(
     ensures taken { IfOk result (λ t. Takes events.old.items (creation postings.now timestamp.now) now.now t events.new.items) }
     ensures same { OnErr result (events.new.items ≡ events.old.items) }
 {
-    if let Some(refusal) = try_postings(alloc, events.as_slice(), postings.as_slice())? {
-        return Ok(Taken::Refused(refusal));
+    match try_postings(alloc, events.as_slice(), postings.as_slice())? {
+        Some(refusal) => return Ok(Taken::Refused(refusal)),
+        None => {}
     }
-    let count = events.len() as u64 - 1;
-    let entry = created(alloc, count, last_entry(events.as_slice()), postings, timestamp, now)?;
+    let entry = next_entry(alloc, events.as_slice(), postings, timestamp, now)?;
     let ledger = ledger_name(alloc)?;
     events.push(Event::Logged { ledger, entry })?;
     Ok(Taken::Appended)
+}
+
+/// The entry that a creation with these postings appends.
+fn next_entry(
+    alloc: Global,
+    events: &[Event],
+    postings: &Postings,
+    timestamp: &Option<i64>,
+    now: &i64,
+) -> Result<Entry, NoMemory>
+    requires { IsPlain events.now }
+    ensures { IfOk result (λ e. e ≡ entry_after (length events.now - 1) (last_of (log events.now the_ledger)) postings.now timestamp.now now.now) }
+{
+    let count = entries_of(events) as u64;
+    created(alloc, count, last_entry(events), postings, timestamp, now)
+}
+
+/// How many entries the one ledger has.
+fn entries_of(events: &[Event]) -> usize
+    requires { IsPlain events.now }
+    ensures value { result ≡ length events.now - 1 }
+    ensures bound { result < length events.now }
+{
+    events.len() - 1
 }
 
 /// The last entry of the one ledger.
@@ -101,8 +126,18 @@ fn last_entry(events: &[Event]) -> Option<&Entry>
     ensures { option_copied result ≡ last_of (log events.now the_ledger) }
 {
     match events.last() {
-        Some(Event::Logged { entry, .. }) => Some(entry),
-        _ => None,
+        Some(event) => entry_of(event),
+        None => None,
+    }
+}
+
+/// The entry that an event logged.
+fn entry_of(event: &Event) -> Option<&Entry>
+    ensures { option_copied result ≡ event_entry event.now }
+{
+    match event {
+        Event::Made(_) => None,
+        Event::Logged { entry, .. } => Some(entry),
     }
 }
 
@@ -132,7 +167,14 @@ impl Ledger for Plain {
     fn call(&mut self, call: &Call, now: i64) -> Taken {
         match call {
             Call::Unreadable(refusal) => refused(self.alloc, refusal),
-            Call::Write { write: Write::Create { postings, timestamp, .. }, .. } => self.create(postings, timestamp, &now),
+            Call::Write {
+                write: Write::Create {
+                    postings,
+                    timestamp,
+                    ..
+                },
+                ..
+            } => self.create(postings, timestamp, &now),
             _ => unreachable!(),
         }
     }

@@ -1,4 +1,6 @@
 use Rattle.std.proofs.Common.{◌≡◌, ℕ, ◌+◌, ◌^◌, ◌<◌, sym, ◌∙◌, ap, subst, arith}
+use Rattle.std.specs.List.{sum_by}
+use Rattle.lg_batch.specs.Totals.{posting_in, posting_out}
 use Rattle.lg_batch.proofs.TotalLemmas.{volumes_by, lent-in, lent-out}
 use Rattle.lg_batch.proofs.totals.lent_total.Goals as goal
 
@@ -30,5 +32,5 @@ add_postings-requires-clause-output c =
 
 pub returns : goal.returns
 returns c = volumes_by _ _
-    (c.add_postings.ensures.input ∙ ap (λ (n : ℕ). n + _) c.add_events-kept.ensures.input ∙ sym (lent-in c.args.account.now c.args.asset.now c.args.events.now c.args.tried.now))
-    (c.add_postings.ensures.output ∙ ap (λ (n : ℕ). n + _) c.add_events-kept.ensures.output ∙ sym (lent-out c.args.account.now c.args.asset.now c.args.events.now c.args.tried.now))
+    (c.add_postings.ensures.input ∙ ap (λ (n : ℕ). n + sum_by (posting_in c.args.account.now c.args.asset.now) c.args.tried.now) c.add_events-kept.ensures.input ∙ sym (lent-in c.args.account.now c.args.asset.now c.args.events.now c.args.tried.now))
+    (c.add_postings.ensures.output ∙ ap (λ (n : ℕ). n + sum_by (posting_out c.args.account.now c.args.asset.now) c.args.tried.now) c.add_events-kept.ensures.output ∙ sym (lent-out c.args.account.now c.args.asset.now c.args.events.now c.args.tried.now))
