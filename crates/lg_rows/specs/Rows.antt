@@ -1,5 +1,6 @@
 -- Worked examples: what calls of an empty product come to.
 use Rattle.std.specs.Prelude.{◌≡◌, ℕ, ℤ, pos, negsuc, Bool, true, false, List, [], ◌∷◌, Option, Some, None, codes}
+use Rattle.std.specs.Fmt.{digits}
 use Rattle.lg_containers.specs.NameTable as table
 use Rattle.lg_types.specs.declared.calls.Call.TheVariants as call
 use Rattle.lg_types.specs.declared.calls.Write.{Write}
@@ -21,7 +22,7 @@ use Rattle.lg_rows.specs.Scenes.{day, eve, default, posting, creation, Asked, as
 
 -- all that is unfolded where a row is computed
 unfoldable pub computed : Unit {0}
-unfolding outcome table.pairs_of table.keys table.values table.len table.get table.contains table.empty table.insert table.remove table.from_pairs table.if_in_order stripe
+unfolding outcome table.pairs_of table.keys table.values table.len table.get table.contains table.empty table.insert table.remove table.from_pairs table.if_in_order stripe digits
 computed = tt
 
 abbrev pub world : List ℕ

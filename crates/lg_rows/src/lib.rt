@@ -1,6 +1,12 @@
 //! Worked examples of the definitions. Each function's contract is an example, which the check proves by computing it.
 #![tactic(auto)]
 
+mod keys;
+mod lists;
+
+pub use keys::{imports, key_not_kept, ledgers, nothing_moves, repeated_key, reverted_there};
+pub use lists::{groups_and_sums, lists_of_writes, pages, past_limit};
+
 ghost use Rattle.std.specs.Prelude.{◌≡◌};
 ghost use Rattle.lg_rows.specs.Scenes.{day};
 ghost use Rattle.lg_rows.specs.Rows.{FirstCreation, LackedFunds, RefusedWithoutEvents, InOrder, OutOfOrder, DatedBack, SeenAfterwards, AccountAtNoon, Tie, FundsFirst, ReferenceUsed, RevertBelow, RevertForced, RevertedTwice, RevertOfNone, MetadataOn, NoAccountYet, gold, silver, only_x, DateKept, AccountStripes};

@@ -2,6 +2,7 @@ pub mod Batches
 pub mod Follows
 pub mod Granted
 pub mod Histories
+pub mod Kept
 pub mod Outcomes
 pub mod ReadBack
 pub mod Tests
