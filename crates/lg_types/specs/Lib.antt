@@ -14,3 +14,4 @@ pub mod RecordPartTexts
 pub mod Stripes
 pub mod Tally
 pub mod Trial
+pub mod MoveLaws
