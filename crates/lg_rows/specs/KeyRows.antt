@@ -1,19 +1,17 @@
 -- Worked examples of keys, imports and ledgers.
-use Rattle.std.specs.Prelude.{◌≡◌, ℕ, ℤ, pos, Bool, true, false, List, [], ◌∷◌, Option, Some, None, codes}
+use Rattle.std.specs.Prelude.{◌≡◌, ℕ, ℤ, pos, true, false, List, [], ◌∷◌, Some, None, codes}
 use Rattle.lg_containers.specs.NameTable as table
 use Rattle.lg_types.specs.declared.calls.Batch.TheVariants.{Ready}
 use Rattle.lg_types.specs.declared.calls.Call.TheVariants as call
-use Rattle.lg_types.specs.declared.queries.Expand.{Expand}
 use Rattle.lg_types.specs.declared.queries.Read.TheVariants as read
 use Rattle.lg_types.specs.declared.records.Entry.{Entry}
 use Rattle.lg_types.specs.declared.refusals.ImportCause.TheVariants as cause
 use Rattle.lg_types.specs.declared.refusals.Refusal.TheVariants as refusal
 use Rattle.lg_types.specs.Log.{log, first_events}
 use Rattle.lg_views.specs.declared.replies.Content.TheVariants as content
-use Rattle.lg_views.specs.declared.views.AccountView.{AccountView}
 use Rattle.lg_views.specs.Replies.{plain, refused, repeated}
 use Rattle.lg_rows.specs.Scenes.{day, eve, default, posting, creation, Asked, asked, asked_with, reading, reply_after, events_after, after_calls, volumes, one_asset, two_accounts, four, all_expanded}
-use Rattle.lg_rows.specs.Rows.{world, eur, usd, a, b, user_one, effective_only, revert}
+use Rattle.lg_rows.specs.Rows.{world, eur, usd, a, b, user_one, effective_only}
 use Rattle.lg_types.specs.declared.calls.Write.TheVariants.{Revert}
 use Rattle.lg_types.specs.declared.calls.Write.{Write}
 

@@ -1,9 +1,8 @@
 -- Worked examples of lists: elements of a list of writes, pages, filters, groups and sums.
-use Rattle.std.specs.Prelude.{◌≡◌, ℕ, ◌-◌, ◌^◌, ℤ, pos, negsuc, Bool, true, false, List, [], ◌∷◌, ◌++◌, Option, Some, None, codes}
+use Rattle.std.specs.Prelude.{◌≡◌, ℕ, pos, negsuc, Bool, true, false, List, [], ◌∷◌, ◌++◌, Option, Some, None, codes}
 use Rattle.lg_containers.specs.NameTable as table
 use Rattle.lg_types.specs.declared.calls.Call.TheVariants as call
 use Rattle.lg_types.specs.declared.calls.Element.{Element}
-use Rattle.lg_types.specs.declared.calls.Write.{Write}
 use Rattle.lg_types.specs.declared.filters.After.{After}
 use Rattle.lg_types.specs.declared.filters.After.TheVariants.{Address as AddressPlace}
 use Rattle.lg_types.specs.declared.filters.Field.TheVariants as field
@@ -21,12 +20,10 @@ use Rattle.lg_views.specs.declared.replies.Content.{Content}
 use Rattle.lg_views.specs.declared.replies.Content.TheVariants as content
 use Rattle.lg_views.specs.declared.replies.Reply.{Reply}
 use Rattle.lg_views.specs.declared.views.AccountView.{AccountView}
-use Rattle.lg_views.specs.declared.views.BalanceItem.{BalanceItem}
 use Rattle.lg_views.specs.declared.views.TransactionView.{TransactionView}
-use Rattle.lg_views.specs.declared.views.VolumeItem.{VolumeItem}
 use Rattle.lg_views.specs.Replies.{plain, refused}
 use Rattle.lg_views.specs.Tokens.{token, token_text}
-use Rattle.lg_rows.specs.Scenes.{day, default, posting, creation, Asked, asked, reading, reply_after, events_after, volumes, none_expanded, no_span, listing, element}
+use Rattle.lg_rows.specs.Scenes.{day, default, posting, creation, Asked, asked, reading, reply_after, events_after, none_expanded, no_span, element}
 use Rattle.lg_rows.specs.Rows.{world, eur, a, b}
 
 -- ---- lists of writes
@@ -94,11 +91,19 @@ last_user digit = AddressPlace (codes "users:" ++ digit)
 
 abbrev pub FirstPage : Type 0
 FirstPage = users_after None ≡ plain (content.Page (record {
-    page_size = 2; has_more = true; next = Some (token kind.Accounts (users_query None) (last_user (codes "2"))); items = items.Accounts (bare (codes "1") ∷ bare (codes "2") ∷ []) }))
+  page_size = 2;
+  has_more = true;
+  next = Some (token kind.Accounts (users_query None) (last_user (codes "2")));
+  items = items.Accounts (bare (codes "1") ∷ bare (codes "2") ∷ []);
+}))
 
 abbrev pub SecondPage : Type 0
 SecondPage = users_after (Some (last_user (codes "2"))) ≡ plain (content.Page (record {
-    page_size = 2; has_more = true; next = Some (token kind.Accounts (users_query (Some (last_user (codes "2")))) (last_user (codes "4"))); items = items.Accounts (bare (codes "3") ∷ bare (codes "4") ∷ []) }))
+  page_size = 2;
+  has_more = true;
+  next = Some (token kind.Accounts (users_query (Some (last_user (codes "2")))) (last_user (codes "4")));
+  items = items.Accounts (bare (codes "3") ∷ bare (codes "4") ∷ []);
+}))
 
 abbrev pub LastPage : Type 0
 LastPage = users_after (Some (last_user (codes "4"))) ≡ plain (content.Page (record { page_size = 2; has_more = false; next = None; items = items.Accounts (bare (codes "5") ∷ []) }))
@@ -117,8 +122,11 @@ first_day = record { filter = All; pit = None; page_size = 15; after = None; exp
 
 abbrev pub Grouped : Type 0
 Grouped = reply_after two_days (reading (read.Volumes first_day)) ≡ plain (content.Page (record {
-    page_size = 15; has_more = false; next = None;
-    items = items.Volumes (record { account = codes "users"; asset = eur; input = 3; output = 0; balance = pos 3 } ∷ record { account = world; asset = eur; input = 0; output = 3; balance = negsuc 2 } ∷ []) }))
+  page_size = 15;
+  has_more = false;
+  next = None;
+  items = items.Volumes (record { account = codes "users"; asset = eur; input = 3; output = 0; balance = pos 3 } ∷ record { account = world; asset = eur; input = 0; output = 3; balance = negsuc 2 } ∷ []);
+}))
 
 abbrev pub Summed : Type 0
 Summed = reply_after two_days (reading (read.Aggregate users_filter None false)) ≡ plain (content.Balances (record { asset = eur; balance = pos 7 } ∷ []))

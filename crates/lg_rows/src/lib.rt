@@ -4,12 +4,12 @@
 mod keys;
 mod lists;
 
-pub use keys::{imports, key_not_kept, ledgers, nothing_moves, repeated_key, reverted_there};
-pub use lists::{groups_and_sums, lists_of_writes, pages, past_limit};
-
 ghost use Rattle.std.specs.Prelude.{◌≡◌};
 ghost use Rattle.lg_rows.specs.Scenes.{day};
 ghost use Rattle.lg_rows.specs.Rows.{FirstCreation, LackedFunds, RefusedWithoutEvents, InOrder, OutOfOrder, DatedBack, SeenAfterwards, AccountAtNoon, Tie, FundsFirst, ReferenceUsed, RevertBelow, RevertForced, RevertedTwice, RevertOfNone, MetadataOn, NoAccountYet, gold, silver, only_x, DateKept, AccountStripes};
+
+pub use keys::{imports, key_not_kept, ledgers, nothing_moves, repeated_key, reverted_there};
+pub use lists::{groups_and_sums, lists_of_writes, pages, past_limit};
 
 /// A creation on an empty product, with its four volumes.
 #[tactic(auto, unfolding(crate::specs::Rows::computed))]

@@ -22,10 +22,11 @@ use Rattle.lg_types.specs.declared.records.Target.TheVariants.{Account, Transact
 use Rattle.lg_types.specs.declared.records.Transaction.{Transaction}
 use Rattle.lg_types.specs.Stripes.{stripe}
 use Rattle.lg_types.specs.Log.{log, logged}
-use Rattle.lg_types.specs.Moves.{what_of, is_of, posting_moves, transaction_moves, body_transaction, entry_moves, moves, pair_moves}
-use Rattle.lg_types.specs.Changes.{MetaOf, account_change, body_changes, entry_changes, changes, is_about, same_target}
-use Rattle.lg_types.specs.Known.{Marking, marking, posting_accounts, transaction_accounts, own_accounts, entry_accounts, entry_keys, entry_markings, markings, is_marking_of, entry_references, references, is_referred_as, accounts}
-use Rattle.lg_types.specs.Parts.{Share, share, shares_of, touches, is_in, account_resource, key_resource, reference_resource, has_account, has_move, has_target, has_change, has_key, has_reference, part_from, part_of, is_share_of, shares_in, part_moves, part_changes, part_accounts, part_markings, part_references, share_moves, share_changes, share_accounts, share_markings, share_references}
+use Rattle.lg_types.specs.Moves.{what_of, is_of, posting_moves, transaction_moves, body_transaction, entry_moves}
+use Rattle.lg_types.specs.Changes.{MetaOf, account_change, body_changes, entry_changes, is_about, same_target}
+use Rattle.lg_types.specs.Known.{Marking, marking, posting_accounts, transaction_accounts, own_accounts, entry_accounts, entry_keys, entry_markings, is_marking_of, entry_references, is_referred_as}
+use Rattle.lg_types.specs.Parts.{Share, share, shares_of, touches, is_in, account_resource, key_resource, reference_resource, has_account, has_move, has_target, has_change, has_key, has_reference, part_from, is_share_of, shares_in, share_moves, share_changes, share_accounts, share_markings, share_references}
+use Rattle.lg_types.specs.PartLaws.{is_account, KnowsMoves, KnowsChanges, KnowsAccounts, KnowsKeys, KnowsReferences}
 use Rattle.lg_types.proofs.Shares.{part-nil, part-cons}
 
 -- ---- filters
@@ -197,7 +198,7 @@ both_first true b h = refl
 both_first false b h = h
 
 -- the moves of an account of the stripe
-pub knows-moves : (s : ℕ) (ledger account asset : List ℕ) (events : List Event) → stripe AccountClass ledger account ≡ s → pair_moves (part_moves ledger (part_of s events)) account asset ≡ pair_moves (moves (log events ledger)) account asset
+pub knows-moves : KnowsMoves
 knows-moves s ledger account asset events h =
     ap (map what_of) (knows_from entry_moves share_moves has_move (λ s n l e. refl) quiet-moves (is_of account asset) s ledger
     (λ m k. in_stripe AccountClass ledger m.account account s h (both_first (bytes_eq m.account account) _ k)) 0 events)
@@ -207,16 +208,13 @@ about_account s ledger account (Account name) h k = in_stripe AccountClass ledge
 about_account s ledger account (TransactionOf id) h k = absurd (let f : false ≡ true = k in cc)
 
 -- the changes of its metadata
-pub knows-changes : (s : ℕ) (ledger account : List ℕ) (events : List Event) → stripe AccountClass ledger account ≡ s → filter (is_about (Account account)) (part_changes ledger (part_of s events)) ≡ filter (is_about (Account account)) (changes (log events ledger))
+pub knows-changes : KnowsChanges
 knows-changes s ledger account events h =
     knows_from entry_changes share_changes has_change (λ s n l e. refl) quiet-changes (is_about (Account account)) s ledger
     (λ c k. about_account s ledger account c.target h k) 0 events
 
-abbrev pub is_account : List ℕ → List ℕ → Bool
-is_account account name = bytes_eq name account
-
 -- where it is named
-pub knows-accounts : (s : ℕ) (ledger account : List ℕ) (events : List Event) → stripe AccountClass ledger account ≡ s → filter (is_account account) (part_accounts ledger (part_of s events)) ≡ filter (is_account account) (accounts (log events ledger))
+pub knows-accounts : KnowsAccounts
 knows-accounts s ledger account events h =
     knows_from entry_accounts share_accounts has_account (λ s n l e. refl) quiet-accounts (is_account account) s ledger
     (λ name k. in_stripe AccountClass ledger name account s h k) 0 events
@@ -228,13 +226,13 @@ quiet-markings : (s : ℕ) (ledger : List ℕ) (e : Entry) → touches s (Logged
 quiet-markings s ledger e h = sym (filter-map (has_marking s ledger) (marking e.id) (entry_keys e)) ∙ ap (map (marking e.id)) (quiet-keys s ledger e h)
 
 -- the entry of a key of the stripe, with the key's hash
-pub knows-keys : (s : ℕ) (ledger key : List ℕ) (events : List Event) → stripe KeyClass ledger key ≡ s → find (is_marking_of key) (part_markings ledger (part_of s events)) ≡ find (is_marking_of key) (markings (log events ledger))
+pub knows-keys : KnowsKeys
 knows-keys s ledger key events h =
     find-filter (is_marking_of key) _ _ (knows_from entry_markings share_markings has_marking (λ s n l e. filter-map (has_marking s l) (marking e.id) (entry_keys e)) quiet-markings (is_marking_of key) s ledger
     (λ m k. in_stripe KeyClass ledger m.mark.key key s h k) 0 events)
 
 -- the transaction of a reference of the stripe
-pub knows-references : (s : ℕ) (ledger reference : List ℕ) (events : List Event) → stripe ReferenceClass ledger reference ≡ s → find (is_referred_as reference) (part_references ledger (part_of s events)) ≡ find (is_referred_as reference) (references (log events ledger))
+pub knows-references : KnowsReferences
 knows-references s ledger reference events h =
     find-filter (is_referred_as reference) _ _ (knows_from entry_references share_references has_reference (λ s n l e. refl) quiet-references (is_referred_as reference) s ledger
     (λ r k. in_stripe ReferenceClass ledger r.reference reference s h k) 0 events)

@@ -15,3 +15,4 @@ pub mod Stripes
 pub mod Tally
 pub mod Trial
 pub mod MoveLaws
+pub mod PartLaws

@@ -1,5 +1,5 @@
 -- What lines come to is importable, and a log that is imported answers alike.
-use Rattle.std.proofs.Common.{◌≡◌, ℕ, ◌+◌, ℤ, Bool, true, false, not, cond, ◌&&◌, List, [], ◌∷◌, ◌++◌, map, Option, Some, None, refl, sym, ap, subst, ◌∙◌}
+use Rattle.std.proofs.Common.{◌≡◌, ℕ, ℤ, Bool, true, not, List, [], ◌∷◌, ◌++◌, map, Option, Some, None, refl, ap, subst, ◌∙◌}
 use Rattle.std.specs.Prelude.{if◌then◌else◌}
 use Rattle.std.specs.Str.{bytes_eq}
 use Rattle.lg_types.specs.declared.calls.Batch.{Batch}
@@ -7,12 +7,12 @@ use Rattle.lg_types.specs.declared.calls.Batch.TheVariants.{Ready, Bad}
 use Rattle.lg_types.specs.declared.calls.Call.TheVariants as call
 use Rattle.lg_types.specs.declared.records.Entry.{Entry}
 use Rattle.lg_types.specs.declared.records.Event.{Event}
-use Rattle.lg_types.specs.declared.records.Event.TheVariants.{Made, Logged}
+use Rattle.lg_types.specs.declared.records.Event.TheVariants.{Logged}
 use Rattle.lg_types.specs.declared.refusals.ImportCause.{ImportCause}
 use Rattle.lg_types.specs.Chain.{own_hash, line_hash}
 use Rattle.lg_types.specs.Log.{log, is_there}
-use Rattle.lg_views.specs.Import.{Reading, ReadLine, Read, Unread, NumberedLine, first_reading, causes, fault, line_causes, line_fault, chained, read_on, bad_or, checked_from, checked_lines, FollowsFrom, IsImportable, import_answer}
-use Rattle.lg_views.specs.Outcome.{Task, ToImport, answer_on, on_ledger, no_ledger, in_ledger, outcome, AnswerAlike}
+use Rattle.lg_views.specs.Import.{Reading, ReadLine, Read, Unread, NumberedLine, first_reading, causes, fault, line_causes, line_fault, chained, read_on, bad_or, checked_from, FollowsFrom, import_answer}
+use Rattle.lg_views.specs.Outcome.{answer_on, on_ledger, no_ledger, outcome}
 use Rattle.lg_views.specs.Laws.{ChecksImportable, ImportedAnswersAlike, AnsweredByOneLog}
 use Rattle.lg_views.proofs.Tests.{same_bytes, not_same_bytes, AllFalse, no_cause, all_false}
 use Rattle.lg_views.proofs.Follows.{follows-join}
@@ -26,7 +26,7 @@ hash-of_chained g e = refl
 chained-follows : (recompute : Bool) (r : Reading) (form : ℕ) (e : Entry) → AllFalse (line_causes recompute r form e) → fault r.entries (chained r.entries e) ≡ None
 chained-follows recompute r form e h =
     no_cause (causes r.entries (chained r.entries e))
-      (h.1.0, (h.1.1.0, (ap (λ x. not (bytes_eq (own_hash r.entries e) x)) (hash-of_chained r.entries e) ∙ not_same_bytes (own_hash r.entries e), h.1.1.1.1)))
+    (h.1.0, (h.1.1.0, (ap (λ x. not (bytes_eq (own_hash r.entries e) x)) (hash-of_chained r.entries e) ∙ not_same_bytes (own_hash r.entries e), h.1.1.1.1)))
 
 ready_of : (number : ℕ) (batch : Batch) (o : Option ImportCause) (g : List Entry) → bad_or number batch o ≡ Ready g → (o ≡ None) × (batch ≡ Ready g)
 ready_of number batch None g h = (refl, h)
@@ -34,10 +34,10 @@ ready_of number batch (Some cause) g h = absurd (let f : ◌≡◌ {A = Batch} (
 
 same_entries : (g h : List Entry) → ◌≡◌ {A = Batch} (Ready g) (Ready h) → g ≡ h
 same_entries g h e = ap entries_of e
-    where
-  entries_of : Batch → List Entry
-  entries_of (Ready es) = es
-  entries_of (Bad line cause) = g
+  where
+    entries_of : Batch → List Entry
+    entries_of (Ready es) = es
+    entries_of (Bad line cause) = g
 
 line-follows : (recompute : Bool) (r : Reading) (l : ReadLine) → line_fault recompute r l ≡ None → FollowsFrom [] r.entries → FollowsFrom [] (read_on r l).entries
 line-follows recompute r (Read form e) h f = follows-join [] r.entries (chained r.entries e ∷ []) f (chained-follows recompute r form e (all_false (line_causes recompute r form e) h), tt)
@@ -68,8 +68,8 @@ import-events events copy g now there empty =
 pub imported_answers_alike : ImportedAnswersAlike
 imported_answers_alike events ledger copy now there empty task later =
     ap (answer_on task later)
-      (ap (λ more. log (events ++ more) copy) (import-events events copy (log events ledger) now there empty)
-      ∙ log-append events (map (Logged copy) (log events ledger)) copy
-      ∙ ap (λ l. l ++ log (map (Logged copy) (log events ledger)) copy) empty
-      ∙ log-logged copy copy (log events ledger)
-      ∙ ap (λ b. if b then log events ledger else []) (same_bytes copy))
+    (ap (λ more. log (events ++ more) copy) (import-events events copy (log events ledger) now there empty)
+    ∙ log-append events (map (Logged copy) (log events ledger)) copy
+    ∙ ap (λ l. l ++ log (map (Logged copy) (log events ledger)) copy) empty
+    ∙ log-logged copy copy (log events ledger)
+    ∙ ap (λ b. if b then log events ledger else []) (same_bytes copy))

@@ -1,5 +1,5 @@
 -- A repeated key finds its entry.
-use Rattle.std.proofs.Common.{◌≡◌, ℕ, ℤ, Bool, true, false, cond, List, Option, Some, None, refl, sym, ap, subst, ◌∙◌}
+use Rattle.std.proofs.Common.{◌≡◌, ℕ, ℤ, cond, List, Some, ap, ◌∙◌}
 use Rattle.std.specs.Str.{bytes_eq}
 use Rattle.lg_types.specs.declared.calls.Write.{Write}
 use Rattle.lg_types.specs.declared.records.Entry.{Entry}
@@ -7,8 +7,7 @@ use Rattle.lg_types.specs.declared.records.KeyMark.{KeyMark}
 use Rattle.lg_types.specs.declared.refusals.Refusal.TheVariants.{KeyInput}
 use Rattle.lg_types.specs.Chain.{input_hash}
 use Rattle.lg_types.specs.Known.{kept, date}
-use Rattle.lg_views.specs.declared.decided.Written.{Written}
-use Rattle.lg_views.specs.declared.decided.Written.TheVariants.{Refuses, Finds, Appends}
+use Rattle.lg_views.specs.declared.decided.Written.TheVariants.{Refuses, Finds}
 use Rattle.lg_views.specs.Writes.{found_if, written_by, written}
 use Rattle.lg_views.proofs.Tests.{same_bytes}
 

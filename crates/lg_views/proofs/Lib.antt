@@ -8,3 +8,4 @@ pub mod Outcomes
 pub mod ReadBack
 pub mod Refused
 pub mod Tests
+pub mod Walks

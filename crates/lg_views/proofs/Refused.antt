@@ -1,10 +1,9 @@
 -- A refused call appends nothing.
-use Rattle.std.proofs.Common.{◌≡◌, ℕ, ℤ, Bool, true, false, List, [], ◌∷◌, ◌++◌, map, Option, Some, None, refl, sym, ap, subst, ◌∙◌}
+use Rattle.std.proofs.Common.{◌≡◌, ℕ, ℤ, Bool, true, false, List, [], ◌∷◌, ◌++◌, map, Option, Some, None, refl, ap}
 use Rattle.std.specs.Prelude.{if◌then◌else◌}
 use Rattle.std.specs.List.{find}
 use Rattle.lg_types.specs.declared.calls.Batch.{Batch}
 use Rattle.lg_types.specs.declared.calls.Batch.TheVariants.{Ready, Bad}
-use Rattle.lg_types.specs.declared.calls.Call.{Call}
 use Rattle.lg_types.specs.declared.calls.Call.TheVariants as call
 use Rattle.lg_types.specs.declared.queries.Read.{Read}
 use Rattle.lg_types.specs.declared.queries.Read.TheVariants as read
@@ -12,7 +11,7 @@ use Rattle.lg_types.specs.declared.records.Entry.{Entry}
 use Rattle.lg_types.specs.declared.records.EntryBody.{EntryBody}
 use Rattle.lg_types.specs.declared.records.EntryBody.TheVariants.{NewTransaction, SetMetadata, Reverted, DeleteMetadata}
 use Rattle.lg_types.specs.declared.records.Event.{Event}
-use Rattle.lg_types.specs.declared.records.Event.TheVariants.{Made, Logged}
+use Rattle.lg_types.specs.declared.records.Event.TheVariants.{Logged}
 use Rattle.lg_types.specs.declared.records.LedgerInfo.{LedgerInfo}
 use Rattle.lg_types.specs.Log.{log, is_there, ledgers}
 use Rattle.lg_views.specs.declared.decided.Written.{Written}
@@ -22,7 +21,7 @@ use Rattle.lg_views.specs.declared.replies.Reply.{Reply}
 use Rattle.lg_views.specs.Import.{import_answer}
 use Rattle.lg_views.specs.Writes.{written, write_answer, body_reply}
 use Rattle.lg_views.specs.Bulk.{Batched, batched, bulk_answer, atomic_answer}
-use Rattle.lg_views.specs.Outcome.{Task, ToWrite, ToBulk, ToImport, ToRead, answer_on, on_ledger, no_ledger, in_ledger, made_ledger, make_answer, ledger_record, read_answer, is_named, outcome}
+use Rattle.lg_views.specs.Outcome.{Task, ToWrite, ToBulk, ToImport, ToRead, answer_on, on_ledger, no_ledger, in_ledger, ledger_record, read_answer, is_named, outcome}
 use Rattle.lg_views.specs.Laws.{IsRefusal, RefusedAppendsNothing}
 
 body_accepted : (g : List Entry) (date : ℤ) (body : EntryBody) → IsRefusal (body_reply g date body) → ⊥
@@ -57,11 +56,11 @@ answer-refused (ToRead r) now g h = refl
 
 in-refused : (events : List Event) (ledger : List ℕ) (task : Task) (now : ℤ) → IsRefusal (in_ledger events ledger task now).0.content → (in_ledger events ledger task now).1 ≡ []
 in-refused events ledger task now = by_test (is_there events ledger)
-    where
-  by_test : (b : Bool) → IsRefusal (if b then on_ledger ledger (answer_on task now (log events ledger)) else no_ledger ledger).0.content
-      → (if b then on_ledger ledger (answer_on task now (log events ledger)) else no_ledger ledger).1 ≡ []
-  by_test true h = ap (map (Logged ledger)) (answer-refused task now (log events ledger) h)
-  by_test false h = refl
+  where
+    by_test : (b : Bool) → IsRefusal (if b then on_ledger ledger (answer_on task now (log events ledger)) else no_ledger ledger).0.content
+        → (if b then on_ledger ledger (answer_on task now (log events ledger)) else no_ledger ledger).1 ≡ []
+    by_test true h = ap (map (Logged ledger)) (answer-refused task now (log events ledger) h)
+    by_test false h = refl
 
 one_of-refused : (b : Bool) (there here : Reply × List Event) → there.1 ≡ [] → (IsRefusal here.0.content → here.1 ≡ []) → IsRefusal (if b then there else here).0.content → (if b then there else here).1 ≡ []
 one_of-refused true there here h k r = h

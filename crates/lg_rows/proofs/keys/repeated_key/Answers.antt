@@ -1,12 +1,11 @@
 -- The hash of what is asked is the hash that is kept, whatever it is.
-use Rattle.std.proofs.Common.{◌≡◌, refl, ap}
-use Rattle.lg_types.specs.Log.{log, first_events}
+use Rattle.std.proofs.Common.{refl, ap}
 use Rattle.lg_views.specs.Outcome.{on_ledger}
 use Rattle.lg_views.specs.Writes.{write_answer}
 use Rattle.lg_views.proofs.Kept.{repeats}
 use Rattle.lg_rows.specs.Rows.{computed}
-use Rattle.lg_rows.specs.Scenes.{day, default, after_calls}
-use Rattle.lg_rows.specs.KeyRows.{first_write, key_one, keyed, between, before_again}
+use Rattle.lg_rows.specs.Scenes.{day, default}
+use Rattle.lg_rows.specs.KeyRows.{first_write, key_one, before_again}
 use Rattle.lg_rows.proofs.keys.repeated_key.Goals as goal
 
 pub returns-clause-reply : goal.returns-clause-reply
