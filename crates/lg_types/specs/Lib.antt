@@ -14,3 +14,5 @@ pub mod RecordPartTexts
 pub mod Stripes
 pub mod Tally
 pub mod Trial
+pub mod MoveLaws
+pub mod PartLaws

@@ -9,6 +9,7 @@ mod elements;
 mod entry_texts;
 mod filters;
 mod forms;
+pub mod laws;
 mod marks;
 mod moves;
 mod part_texts;

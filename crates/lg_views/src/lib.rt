@@ -4,6 +4,7 @@
 mod answers;
 mod decided;
 mod items;
+pub mod laws;
 mod lines;
 mod replies;
 mod views;
