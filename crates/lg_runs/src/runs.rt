@@ -1,6 +1,6 @@
 //! Runs of records with counted accesses and a number of spare places.
 
-ghost use Rattle.std.specs.Prelude.{◌≡◌, ◌==◌, ℕ, ◌+◌, ◌-◌, ◌<◌, ◌≤◌, max, [], ◌∷◌, ◌++◌, length, take, OnOk, slice_index_or, slice_set, insert};
+ghost use Rattle.std.specs.Prelude.{◌≡◌, ◌==◌, ℕ, ◌+◌, ◌-◌, ◌^◌, ◌<◌, ◌≤◌, max, [], ◌∷◌, ◌++◌, length, take, OnOk, slice_index_or, slice_set, insert};
 
 use crate::steps::Steps;
 use std::alloc::{AllocError, Global};
@@ -40,7 +40,9 @@ impl<T: Copy> Runs<T> {
 
     /// The number of records. It is no step.
     pub fn len(&self) -> usize
-        ensures { result ≡ length self.now.items }
+        ensures value { result ≡ length self.now.items }
+        // A run never holds more records than a `usize` counts.
+        ensures bound { length self.now.items + self.now.spare < 2 ^ 64 }
     {
         self.records.len()
     }
