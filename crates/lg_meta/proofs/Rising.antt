@@ -115,3 +115,8 @@ filter-front p [] (suc n) le pass fail = absurd (omega arith)
 filter-front p (x ∷ xs) (suc n) le pass fail =
     ap (λ b. cond b (x ∷ filter p xs) (filter p xs)) (pass 0 0 (omega arith) (omega arith))
     ∙ ap (λ ys. x ∷ ys) (filter-front p xs n (omega arith) (λ k d low high. pass (suc k) d (omega arith) (omega arith)) (λ k d low high. fail (suc k) d (omega arith) (omega arith)))
+
+pub last_date-push : (cs : List DatedChange) (c : DatedChange) → last_date (cs ++ c ∷ []) ≡ Some c.date
+last_date-push [] c = refl
+last_date-push (d ∷ []) c = refl
+last_date-push (d ∷ e ∷ es) c = last_date-push (e ∷ es) c

@@ -10,3 +10,6 @@ mod places;
 
 pub use change::{DatedChange, MetaChange};
 pub use history::MetaHistory;
+
+#[cfg(test)]
+mod tests;
