@@ -12,6 +12,7 @@ use crate::sink_feed::write_whole;
 
 /// Feeds a sink through a buffer: what was fed is what the sink holds, followed by what waits. Each stop is a fault of
 /// the sink.
+#[derive(Drop)]
 pub struct BufferedFeed<'a, K: Sink> {
     sink: &'a mut K,
     buffer: OutputBuffer,

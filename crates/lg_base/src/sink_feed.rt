@@ -8,6 +8,7 @@ use crate::feed::{Feed, Stop};
 use crate::sink::{Failed, Sink};
 
 /// Feeds a sink: what was fed is what the sink holds. Each stop is a fault of the sink.
+#[derive(Drop)]
 pub struct SinkFeed<'a, K: Sink> {
     sink: &'a mut K,
 }

@@ -160,6 +160,8 @@ pub enum Refusal {
         line: u64,
         cause: ImportCause,
     },
+    /// What is asked is not built.
+    NotBuilt,
     /// Memory is wanting.
     OutOfMemory,
 }
@@ -269,6 +271,7 @@ impl Duplicate for Refusal {
                 line: *line,
                 cause: cause.copy(alloc)?,
             }),
+            Refusal::NotBuilt => Ok(Refusal::NotBuilt),
             Refusal::OutOfMemory => Ok(Refusal::OutOfMemory),
         }
     }
