@@ -35,7 +35,7 @@ pub use lg_containers::{
 };
 pub use marks::{Mark, Marked};
 pub use moves::Move;
-pub use part_texts::{FIRST_MOMENT, LAST_MOMENT, bring};
+pub use part_texts::bring;
 pub use parts::Part;
 pub use postings::Postings;
 pub use queries::{Expand, Query, Read, Span};
