@@ -1,5 +1,6 @@
 -- UTF-8 as it is read from left to right, by table 3-7 of the Unicode Standard.
-use Rattle.std.specs.Prelude.{ℕ, ◌-◌, nat_lt, ◌==◌, if◌then◌else◌, Option, Some, None}
+use Rattle.std.specs.Prelude.{◌≡◌, ℕ, ◌-◌, ◌≤◌, nat_lt, ◌==◌, if◌then◌else◌, Option, Some, None, IsSomeAnd, List, [], ◌∷◌, ◌++◌}
+use Rattle.std.specs.Char.{IsScalar, encode_utf8}
 use Rattle.lg_containers.specs.declared.utf8.Utf8State.{Utf8State}
 use Rattle.lg_containers.specs.declared.utf8.Utf8State.TheVariants.{Boundary, Inside}
 
@@ -23,3 +24,13 @@ utf8_step (Inside low high left) b =
     if nat_lt b low then None else
     (if nat_lt high b then None else
     (if left == 0 then Some Boundary else Some (Inside 0x80 0xBF (left - 1))))
+
+-- the bytes end the character that the state is in, and go no further
+abbrev pub Finishes : Utf8State → List ℕ → Type 0
+Finishes Boundary bytes = bytes ≡ []
+Finishes (Inside low high left) [] = ⊥
+Finishes (Inside low high left) (b ∷ bs) = IsSomeAnd (utf8_step (Inside low high left) b) (λ next. Finishes next bs)
+
+-- the bytes begin a character from 128 on, and whatever finishes the state ends one
+abbrev pub BeginsChar : List ℕ → Utf8State → Type 0
+BeginsChar part state = (more : List ℕ) → Finishes state more → (c : ℕ) × IsScalar c × (128 ≤ c) × (part ++ more ≡ encode_utf8 c)
