@@ -1,1 +1,1 @@
-pub mod Utf8Bytes
+pub mod Reading

@@ -1,1 +1,15 @@
+pub mod Grammar
+pub mod GrammarLaws
+pub mod NameFaults
+pub mod Bytes
+pub mod AddressGrammar
+pub mod AddressLaws
+pub mod AssetGrammar
+pub mod AssetLaws
+pub mod CountedGrammar
+pub mod CountedLaws
 pub mod Utf8
+pub mod Utf8Laws
+pub mod TextLaws
+pub mod ReferenceGrammar
+pub mod ReferenceLaws

@@ -1,5 +1,5 @@
 -- UTF-8 as it is read from left to right, by table 3-7 of the Unicode Standard.
-use Rattle.std.specs.Prelude.{◌≡◌, ℕ, ◌-◌, ◌≤◌, nat_lt, ◌==◌, if◌then◌else◌, Option, Some, None, IsSomeAnd, List, [], ◌∷◌, ◌++◌}
+use Rattle.std.specs.Prelude.{◌≡◌, ℕ, ◌-◌, ◌≤◌, nat_lt, ◌==◌, if◌then◌else◌, Option, Some, None, IsSomeAnd, Bool, true, false, List, [], ◌∷◌, ◌++◌}
 use Rattle.std.specs.Char.{IsScalar, encode_utf8}
 use Rattle.lg_containers.specs.declared.utf8.Utf8State.{Utf8State}
 use Rattle.lg_containers.specs.declared.utf8.Utf8State.TheVariants.{Boundary, Inside}
@@ -24,6 +24,11 @@ utf8_step (Inside low high left) b =
     if nat_lt b low then None else
     (if nat_lt high b then None else
     (if left == 0 then Some Boundary else Some (Inside 0x80 0xBF (left - 1))))
+
+-- a character may begin, or the text end
+abbrev pub is_boundary : Utf8State → Bool
+is_boundary Boundary = true
+is_boundary (Inside low high left) = false
 
 -- the bytes end the character that the state is in, and go no further
 abbrev pub Finishes : Utf8State → List ℕ → Type 0

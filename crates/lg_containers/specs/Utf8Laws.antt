@@ -20,12 +20,12 @@ inside_of : (low high left x : ℕ) (xs : List ℕ) → Finishes (Inside low hig
 unfolding utf8_step
 inside_of low high left x xs =
     cond_both (nat_lt x low) None _ (λ (o : Option Utf8State). IsSomeAnd o (λ next. Finishes next xs) → InsideByte low high left x xs)
-      (λ e h. absurd h)
-      (λ e1. cond_both (nat_lt high x) None _ (λ (o : Option Utf8State). IsSomeAnd o (λ next. Finishes next xs) → InsideByte low high left x xs)
-        (λ e h. absurd h)
-        (λ e2. cond_both (left == 0) (Some Boundary) (Some (Inside 0x80 0xBF (left - 1))) (λ (o : Option Utf8State). IsSomeAnd o (λ next. Finishes next xs) → InsideByte low high left x xs)
-          (λ e3 h. record { above = ltb-false x low e1; below = ltb-false high x e2; rest = rw e3 h })
-          (λ e3 h. record { above = ltb-false x low e1; below = ltb-false high x e2; rest = rw e3 h })))
+    (λ e h. absurd h)
+    (λ e1. cond_both (nat_lt high x) None _ (λ (o : Option Utf8State). IsSomeAnd o (λ next. Finishes next xs) → InsideByte low high left x xs)
+    (λ e h. absurd h)
+    (λ e2. cond_both (left == 0) (Some Boundary) (Some (Inside 0x80 0xBF (left - 1))) (λ (o : Option Utf8State). IsSomeAnd o (λ next. Finishes next xs) → InsideByte low high left x xs)
+    (λ e3 h. record { above = ltb-false x low e1; below = ltb-false high x e2; rest = rw e3 h })
+    (λ e3 h. record { above = ltb-false x low e1; below = ltb-false high x e2; rest = rw e3 h })))
 
 -- one byte that ends a character
 one_left : (low high : ℕ) (more : List ℕ) → Finishes (Inside low high 0) more → (x : ℕ) × (low ≤ x) × (x ≤ high) × (more ≡ x ∷ [])
@@ -88,9 +88,12 @@ lead_two b low high more h =
     let x = q.0 in
     let x_low : 128 ≤ x = q.1 in
     let x_high : x ≤ 191 = q.2 in
-    let c = (b - 192) * 64 + (x - 128) in
-    (c, low_scalar c (omega arith), omega arith,
-     ap (λ (l : List ℕ). b ∷ l) q.3 ∙ sym (two_bytes c b x (omega arith) (omega arith) (omega arith) (omega arith)))
+    let c = (b - 192) * 64 + (x - 128) in (
+      c,
+      low_scalar c (omega arith),
+      omega arith,
+      ap (λ (l : List ℕ). b ∷ l) q.3 ∙ sym (two_bytes c b x (omega arith) (omega arith) (omega arith) (omega arith)),
+    )
 
 lead_three : (b low high : ℕ) → 224 ≤ b → b < 240 → 128 ≤ low → high ≤ 191 → (b ≡ 224 → 160 ≤ low) → ((b < 237) ⊎ ((237 < b) ⊎ ((b ≡ 237) × (high ≤ 159)))) → BeginsChar (b ∷ []) (Inside low high 1)
 lead_three b low high b_low b_high l_low h_high first last more h =
@@ -102,9 +105,12 @@ lead_three b low high b_low b_high l_low h_high first last more h =
     let y_low : 128 ≤ y = q.4 in
     let y_high : y ≤ 191 = q.5 in
     let c = (b - 224) * 4096 + ((x - 128) * 64 + (y - 128)) in
-    let above : 2048 ≤ c = elim (cases_eq b 224) [ inl e ↦ (let f : 160 ≤ low = first e in omega arith) | inr e ↦ omega arith ] in
-    (c, elim last [ inl e ↦ low_scalar c (omega arith) | inr e ↦ elim e [ inl e2 ↦ high_scalar c (omega arith) (omega arith) | inr e2 ↦ (let e3 : b ≡ 237 = e2.0 in let e4 : high ≤ 159 = e2.1 in low_scalar c (omega arith)) ] ], omega arith,
-     ap (λ (l : List ℕ). b ∷ l) q.6 ∙ sym (three_bytes c b x y above (omega arith) (omega arith) (omega arith) (omega arith)))
+    let above : 2048 ≤ c = elim (cases_eq b 224) [ inl e ↦ (let f : 160 ≤ low = first e in omega arith) | inr e ↦ omega arith ] in (
+      c,
+      elim last [ inl e ↦ low_scalar c (omega arith) | inr e ↦ elim e [ inl e2 ↦ high_scalar c (omega arith) (omega arith) | inr e2 ↦ (let e3 : b ≡ 237 = e2.0 in let e4 : high ≤ 159 = e2.1 in low_scalar c (omega arith)) ] ],
+      omega arith,
+      ap (λ (l : List ℕ). b ∷ l) q.6 ∙ sym (three_bytes c b x y above (omega arith) (omega arith) (omega arith) (omega arith)),
+    )
 
 lead_four : (b low high : ℕ) → 240 ≤ b → b ≤ 244 → 128 ≤ low → high ≤ 191 → (b ≡ 240 → 144 ≤ low) → (b ≡ 244 → high ≤ 143) → BeginsChar (b ∷ []) (Inside low high 2)
 lead_four b low high b_low b_high l_low h_high first last more h =
@@ -120,9 +126,12 @@ lead_four b low high b_low b_high l_low h_high first last more h =
     let z_high : z ≤ 191 = q.8 in
     let c = (b - 240) * 262144 + ((x - 128) * 4096 + ((y - 128) * 64 + (z - 128))) in
     let above : 65536 ≤ c = elim (cases_eq b 240) [ inl e ↦ (let f : 144 ≤ low = first e in omega arith) | inr e ↦ omega arith ] in
-    let below : c < 1114112 = elim (cases_eq b 244) [ inl e ↦ (let f : high ≤ 143 = last e in omega arith) | inr e ↦ omega arith ] in
-    (c, high_scalar c (omega arith) below, omega arith,
-     ap (λ (l : List ℕ). b ∷ l) q.9 ∙ sym (four_bytes c b x y z above (omega arith) (omega arith) (omega arith) (omega arith)))
+    let below : c < 1114112 = elim (cases_eq b 244) [ inl e ↦ (let f : high ≤ 143 = last e in omega arith) | inr e ↦ omega arith ] in (
+      c,
+      high_scalar c (omega arith) below,
+      omega arith,
+      ap (λ (l : List ℕ). b ∷ l) q.9 ∙ sym (four_bytes c b x y z above (omega arith) (omega arith) (omega arith) (omega arith)),
+    )
 
 pub lead_begins : (b : ℕ) → LeadGives b (lead_state b)
 unfolding lead_state
@@ -136,16 +145,16 @@ lead_begins b =
     cond_both (b == 0xED) _ _ (LeadGives b) (λ e. let same : b ≡ 237 = eqb-true _ _ e in lead_three b 128 159 (omega arith) (omega arith) (omega arith) (omega arith) (λ w. omega arith) (inr (inr (same, omega arith))))
     (λ neED. let other2 : b ≡ 237 → ⊥ = eqb-false _ _ neED in
     cond_both (nat_lt b 0xF0) _ _ (LeadGives b)
-      (λ e. let below : b < 240 = ltb-true _ _ e in lead_three b 128 191 low below (omega arith) (omega arith) (λ w. absurd (other w))
-          (elim (cases_lt b 237) [ inl k ↦ inl k | inr k ↦ inr (inl (omega arith)) ]))
+    (λ e. let below : b < 240 = ltb-true _ _ e in lead_three b 128 191 low below (omega arith) (omega arith) (λ w. absurd (other w))
+    (elim (cases_lt b 237) [ inl k ↦ inl k | inr k ↦ inr (inl (omega arith)) ]))
     (λ eF0. let low2 : 240 ≤ b = ltb-false _ _ eF0 in
     cond_both (b == 0xF0) _ _ (LeadGives b) (λ e. let same : b ≡ 240 = eqb-true _ _ e in lead_four b 144 191 (omega arith) (omega arith) (omega arith) (omega arith) (λ _. omega arith) (λ w. omega arith))
     (λ neF0. let other3 : b ≡ 240 → ⊥ = eqb-false _ _ neF0 in
     cond_both (nat_lt b 0xF4) _ _ (LeadGives b)
-      (λ e. let below : b < 244 = ltb-true _ _ e in lead_four b 128 191 low2 (omega arith) (omega arith) (omega arith) (λ w. absurd (other3 w)) (λ w. omega arith))
+    (λ e. let below : b < 244 = ltb-true _ _ e in lead_four b 128 191 low2 (omega arith) (omega arith) (omega arith) (λ w. absurd (other3 w)) (λ w. omega arith))
     (λ eF4. cond_both (b == 0xF4) _ _ (LeadGives b)
-      (λ e. let same : b ≡ 244 = eqb-true _ _ e in lead_four b 128 143 (omega arith) (omega arith) (omega arith) (omega arith) (λ w. omega arith) (λ _. omega arith))
-      (λ e. tt)))))))))
+    (λ e. let same : b ≡ 244 = eqb-true _ _ e in lead_four b 128 143 (omega arith) (omega arith) (omega arith) (omega arith) (λ w. omega arith) (λ _. omega arith))
+    (λ e. tt)))))))))
 
 -- one more byte of a character: it goes on, or is whole
 abbrev pub StepGives : List ℕ → Option Utf8State → Type 0
@@ -199,10 +208,10 @@ unfolding lead_state
 state_three b low high =
     cond-false (nat_lt b 0x80) _ _ (le-ltb b 128 (omega arith)) ∙ cond-false (nat_lt b 0xC2) _ _ (le-ltb b 194 (omega arith)) ∙ cond-false (nat_lt b 0xE0) _ _ (le-ltb b 224 low) ∙
     cond_both (b == 0xE0) _ _ (λ o. o ≡ Some (Inside (low_of_three b) (high_of_three b) 1))
-      (λ e. let same : b ≡ 224 = eqb-true _ _ e in rw same refl)
-      (λ e. cond_both (b == 0xED) _ _ (λ o. o ≡ Some (Inside (low_of_three b) (high_of_three b) 1))
-        (λ f. let same : b ≡ 237 = eqb-true _ _ f in rw same refl)
-        (λ f. cond-true (nat_lt b 0xF0) _ _ (lt-ltb b 240 high) ∙ rw (e, f) refl))
+    (λ e. let same : b ≡ 224 = eqb-true _ _ e in rw same refl)
+    (λ e. cond_both (b == 0xED) _ _ (λ o. o ≡ Some (Inside (low_of_three b) (high_of_three b) 1))
+    (λ f. let same : b ≡ 237 = eqb-true _ _ f in rw same refl)
+    (λ f. cond-true (nat_lt b 0xF0) _ _ (lt-ltb b 240 high) ∙ rw (e, f) refl))
 
 abbrev low_of_four : ℕ → ℕ
 low_of_four b = cond (b == 0xF0) 0x90 0x80
@@ -218,17 +227,21 @@ state_four b low high =
     cond-false (nat_lt b 0x80) _ _ (le-ltb b 128 (omega arith)) ∙ cond-false (nat_lt b 0xC2) _ _ (le-ltb b 194 (omega arith)) ∙ cond-false (nat_lt b 0xE0) _ _ (le-ltb b 224 (omega arith)) ∙
     cond-false (b == 0xE0) _ _ (ne_eqb b 224 ne1) ∙ cond-false (b == 0xED) _ _ (ne_eqb b 237 ne2) ∙ cond-false (nat_lt b 0xF0) _ _ (le-ltb b 240 low) ∙
     cond_both (b == 0xF0) _ _ (λ o. o ≡ Some (Inside (low_of_four b) (high_of_four b) 2))
-      (λ e. let same : b ≡ 240 = eqb-true _ _ e in rw same refl)
-      (λ e. cond_both (nat_lt b 0xF4) _ _ (λ o. o ≡ Some (Inside (low_of_four b) (high_of_four b) 2))
-        (λ f. let below : b < 244 = ltb-true b 244 f in let ne : b ≡ 244 → ⊥ = omega arith in rw (e, ne_eqb b 244 ne) refl)
-        (λ f. let above : 244 ≤ b = ltb-false b 244 f in let same : b ≡ 244 = omega arith in rw same refl))
+    (λ e. let same : b ≡ 240 = eqb-true _ _ e in rw same refl)
+    (λ e. cond_both (nat_lt b 0xF4) _ _ (λ o. o ≡ Some (Inside (low_of_four b) (high_of_four b) 2))
+    (λ f. let below : b < 244 = ltb-true b 244 f in let ne : b ≡ 244 → ⊥ = omega arith in rw (e, ne_eqb b 244 ne) refl)
+    (λ f. let above : 244 ≤ b = ltb-false b 244 f in let same : b ≡ 244 = omega arith in rw same refl))
 
 lead_of_two : (c : ℕ) → 128 ≤ c → c < 2048 → LeadOf c
 lead_of_two c low high =
     let b : ℕ = 192 + c / 64 in
     let x : ℕ = 128 + c % 64 in
     record {
-      first = b; low = 0x80; high = 0xBF; left = 0; others = x ∷ [];
+      first = b;
+      low = 0x80;
+      high = 0xBF;
+      left = 0;
+      others = x ∷ [];
       state = state_two b (omega arith) (omega arith);
       finishes = finishes_cons 0x80 0xBF 0 x [] (omega arith) (omega arith) refl;
       bytes = two_bytes c b x low high (omega arith) (omega arith);
@@ -236,11 +249,12 @@ lead_of_two c low high =
     }
 
 second_of_three : (c : ℕ) → 2048 ≤ c → c < 65536 → scalar c ≡ true → (low_of_three (224 + c / 4096) ≤ 128 + c / 64 % 64) × (128 + c / 64 % 64 ≤ high_of_three (224 + c / 4096))
-second_of_three c low high ok =
-    (cond_both ((224 + c / 4096) == 0xE0) 0xA0 0x80 (λ l. l ≤ 128 + c / 64 % 64) (λ e. let same : 224 + c / 4096 ≡ 224 = eqb-true _ _ e in omega arith) (λ e. omega arith),
-     cond_both ((224 + c / 4096) == 0xED) 0x9F 0xBF (λ h. 128 + c / 64 % 64 ≤ h)
-       (λ e. let same : 224 + c / 4096 ≡ 237 = eqb-true _ _ e in elim (scalar_cases c ok) [ inl k ↦ omega arith | inr k ↦ (let k0 : 57344 ≤ c = k.0 in omega arith) ])
-       (λ e. omega arith))
+second_of_three c low high ok = (
+  cond_both ((224 + c / 4096) == 0xE0) 0xA0 0x80 (λ l. l ≤ 128 + c / 64 % 64) (λ e. let same : 224 + c / 4096 ≡ 224 = eqb-true _ _ e in omega arith) (λ e. omega arith),
+  cond_both ((224 + c / 4096) == 0xED) 0x9F 0xBF (λ h. 128 + c / 64 % 64 ≤ h)
+      (λ e. let same : 224 + c / 4096 ≡ 237 = eqb-true _ _ e in elim (scalar_cases c ok) [ inl k ↦ omega arith | inr k ↦ (let k0 : 57344 ≤ c = k.0 in omega arith) ])
+      (λ e. omega arith),
+)
 
 lead_of_three : (c : ℕ) → 2048 ≤ c → c < 65536 → scalar c ≡ true → LeadOf c
 lead_of_three c low high ok =
@@ -249,7 +263,11 @@ lead_of_three c low high ok =
     let y : ℕ = 128 + c % 64 in
     let second = second_of_three c low high ok in
     record {
-      first = b; low = low_of_three b; high = high_of_three b; left = 1; others = x ∷ y ∷ [];
+      first = b;
+      low = low_of_three b;
+      high = high_of_three b;
+      left = 1;
+      others = x ∷ y ∷ [];
       state = state_three b (omega arith) (omega arith);
       finishes = finishes_cons (low_of_three b) (high_of_three b) 1 x (y ∷ []) second.0 second.1 (finishes_cons 0x80 0xBF 0 y [] (omega arith) (omega arith) refl);
       bytes = three_bytes c b x y low high (omega arith) (omega arith) (omega arith);
@@ -257,9 +275,10 @@ lead_of_three c low high ok =
     }
 
 second_of_four : (c : ℕ) → 65536 ≤ c → c < 1114112 → (low_of_four (240 + c / 262144) ≤ 128 + c / 4096 % 64) × (128 + c / 4096 % 64 ≤ high_of_four (240 + c / 262144))
-second_of_four c low high =
-    (cond_both ((240 + c / 262144) == 0xF0) 0x90 0x80 (λ l. l ≤ 128 + c / 4096 % 64) (λ e. let same : 240 + c / 262144 ≡ 240 = eqb-true _ _ e in omega arith) (λ e. omega arith),
-     cond_both ((240 + c / 262144) == 0xF4) 0x8F 0xBF (λ h. 128 + c / 4096 % 64 ≤ h) (λ e. let same : 240 + c / 262144 ≡ 244 = eqb-true _ _ e in omega arith) (λ e. omega arith))
+second_of_four c low high = (
+  cond_both ((240 + c / 262144) == 0xF0) 0x90 0x80 (λ l. l ≤ 128 + c / 4096 % 64) (λ e. let same : 240 + c / 262144 ≡ 240 = eqb-true _ _ e in omega arith) (λ e. omega arith),
+  cond_both ((240 + c / 262144) == 0xF4) 0x8F 0xBF (λ h. 128 + c / 4096 % 64 ≤ h) (λ e. let same : 240 + c / 262144 ≡ 244 = eqb-true _ _ e in omega arith) (λ e. omega arith),
+)
 
 lead_of_four : (c : ℕ) → 65536 ≤ c → c < 1114112 → LeadOf c
 lead_of_four c low high =
@@ -269,7 +288,11 @@ lead_of_four c low high =
     let z : ℕ = 128 + c % 64 in
     let second = second_of_four c low high in
     record {
-      first = b; low = low_of_four b; high = high_of_four b; left = 2; others = x ∷ y ∷ z ∷ [];
+      first = b;
+      low = low_of_four b;
+      high = high_of_four b;
+      left = 2;
+      others = x ∷ y ∷ z ∷ [];
       state = state_four b (omega arith) (omega arith);
       finishes = finishes_cons (low_of_four b) (high_of_four b) 2 x (y ∷ z ∷ []) second.0 second.1 (finishes_cons 0x80 0xBF 1 y (z ∷ []) (omega arith) (omega arith) (finishes_cons 0x80 0xBF 0 z [] (omega arith) (omega arith) refl));
       bytes = four_bytes c b x y z low (omega arith) (omega arith) (omega arith) (omega arith);

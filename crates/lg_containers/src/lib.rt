@@ -1,8 +1,49 @@
-//! Names and other small containers.
+//! The containers that the ledger's types are made of: names with a grammar, lists, and maps from names.
 #![tactic(auto)]
 
+mod address;
+mod asset;
+mod bytes;
+mod counted;
+mod duplicate;
+mod fault;
+mod grammar;
+mod list;
+mod name;
+mod order;
+mod reference;
 mod text;
 pub mod utf8;
 
-pub use text::Text;
-pub use std::alloc::AllocError as NoMemory;
+pub use address::{AddressGrammar, AddressState};
+pub use asset::{AssetGrammar, AssetState};
+pub use bytes::{is_code_byte, is_word_byte};
+pub use counted::{BucketGrammar, CountedState, KeyGrammar, LedgerNameGrammar};
+pub use duplicate::{Duplicate, copy_items};
+pub use fault::{NameFault, NoMemory};
+pub use grammar::Grammar;
+pub use list::List;
+pub use name::Name;
+pub use reference::{ReferenceGrammar, ReferenceState};
+pub use text::TextGrammar;
+
+/// The address of an account, as `users:1:wallet`.
+pub type Address = Name<AddressGrammar>;
+
+/// The name of an asset, as `USD/2`.
+pub type Asset = Name<AssetGrammar>;
+
+/// The name of a ledger, as `default`.
+pub type LedgerName = Name<LedgerNameGrammar>;
+
+/// The bucket of a ledger, as `_default`.
+pub type Bucket = Name<BucketGrammar>;
+
+/// The idempotency key of a call.
+pub type Key = Name<KeyGrammar>;
+
+/// A text: any UTF-8.
+pub type Text = Name<TextGrammar>;
+
+/// The reference of a transaction.
+pub type Reference = Name<ReferenceGrammar>;

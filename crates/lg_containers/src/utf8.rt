@@ -1,6 +1,6 @@
 //! UTF-8 read from left to right, byte by byte (Unicode Standard, table 3-7).
 ghost use Rattle.std.specs.Prelude.{◌≡◌};
-ghost use Rattle.lg_containers.specs.Utf8.{utf8_step};
+ghost use Rattle.lg_containers.specs.Utf8.{utf8_step, lead_state, is_boundary as boundary_of};
 
 /// Where a reading of UTF-8 stands.
 #[derive(Clone, Copy)]
@@ -35,8 +35,6 @@ pub fn next(state: Utf8State, byte: u8) -> Option<Utf8State>
     }
 }
 
-ghost use Rattle.lg_containers.specs.Utf8.{lead_state};
-
 /// The state after the first byte of a character.
 #[tactic(auto, unfolding(crate::specs::Utf8::lead_state))]
 fn lead(byte: u8) -> Option<Utf8State>
@@ -53,4 +51,11 @@ fn lead(byte: u8) -> Option<Utf8State>
         0xF4 => Some(Utf8State::Inside(0x80, 0x8F, 2)),
         _ => None,
     }
+}
+
+/// Whether a character may begin, or the text end.
+pub fn is_boundary(state: Utf8State) -> bool
+    ensures { result ≡ boundary_of state }
+{
+    matches!(state, Utf8State::Boundary)
 }
