@@ -135,6 +135,10 @@ pub record IsString (t bytes : List ℕ) : Type 0 where
 abbrev pub Padded : (List ℕ → Type 0) → List ℕ → Type 0
 Padded P bytes = (before inner after : List ℕ) × IsBlank before × P inner × IsBlank after × (bytes ≡ before ++ (inner ++ after))
 
+-- Section 4: a member is a name, a colon and a value.
+abbrev pub IsMember : List ℕ → (List ℕ → Type 0) → List ℕ → Type 0
+IsMember name P bytes = (a b : List ℕ) × Padded (IsString name) a × Padded P b × (bytes ≡ a ++ 58 ∷ b)
+
 -- Sections 3 to 5: values, the items of a list between its brackets, the members of an object between its braces.
 abbrev mutual
   pub IsValue : Tree → List ℕ → Type 0
@@ -154,8 +158,8 @@ abbrev mutual
 
   pub AreMembers : Members → List ℕ → Type 0
   AreMembers no_member bytes = IsBlank bytes
-  AreMembers (member name t no_member) bytes = (a b : List ℕ) × Padded (IsString name) a × Padded (IsValue t) b × (bytes ≡ a ++ 58 ∷ b)
-  AreMembers (member name t (member m u us)) bytes = (a b others : List ℕ) × Padded (IsString name) a × Padded (IsValue t) b × AreMembers (member m u us) others × (bytes ≡ a ++ 58 ∷ (b ++ 44 ∷ others))
+  AreMembers (member name t no_member) bytes = IsMember name (IsValue t) bytes
+  AreMembers (member name t (member m u us)) bytes = (first others : List ℕ) × IsMember name (IsValue t) first × AreMembers (member m u us) others × (bytes ≡ first ++ 44 ∷ others)
 
 -- the bytes are a JSON text (section 2) of the value t
 abbrev pub IsJson : Tree → List ℕ → Type 0

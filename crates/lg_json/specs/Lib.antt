@@ -3,3 +3,4 @@ pub mod Grammar
 pub mod Reading
 pub mod View
 pub mod Fine
+pub mod Before
