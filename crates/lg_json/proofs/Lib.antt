@@ -1,3 +1,4 @@
 pub mod Standing
 pub mod Lists
 pub mod Texts
+pub mod Sound
