@@ -140,7 +140,7 @@ unit_goes_on t inner done (a ∷ c ∷ d ∷ []) n u b s h e hb =
 unit_goes_on t inner done (a ∷ c ∷ d ∷ f ∷ fs) n u b s h e hb = absurd h
 
 -- a pair of surrogates
-joined_is : (h l : ℕ) → IsHigh h → IsLow l → joined h l ≡ pair h l
+pub joined_is : (h l : ℕ) → IsHigh h → IsLow l → joined h l ≡ pair h l
 joined_is h l hh hl =
     let h0 = hh.0 in
     let h1 = hh.1 in
