@@ -5,3 +5,5 @@ pub mod Sound
 pub mod Meets
 pub mod Reaches
 pub mod TextRuns
+pub mod Names
+pub mod Goes
