@@ -7,3 +7,5 @@ pub mod Reaches
 pub mod TextRuns
 pub mod Names
 pub mod Goes
+pub mod Whole
+pub mod Fit
