@@ -9,3 +9,6 @@ pub mod Names
 pub mod Goes
 pub mod Whole
 pub mod Fit
+pub mod Utf8Texts
+pub mod Loop
+pub mod Laws

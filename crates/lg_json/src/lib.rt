@@ -8,7 +8,9 @@ mod stack;
 mod step;
 mod number;
 mod open;
+mod reader;
 mod text_step;
 
 pub use json::{Json, JsonFault, JsonList, Member, MemberList};
+pub use reader::read;
 pub use std::alloc::AllocError as NoMemory;
