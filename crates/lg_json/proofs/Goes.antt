@@ -11,6 +11,7 @@ use Rattle.lg_json.specs.Grammar.{IsBlank, IsBlankByte, IsInt, IsPositive, IsWho
 use Rattle.lg_json.specs.Reading.{Frame, Mode, State, at, is_blank, is_digit, with_value, complete, begin, capped, fits, begins_part, has_name, with_name, end_text, closes, step, finish, and_then, reads, reading}
 use Rattle.lg_json.specs.Reading.Frame.{in_list, in_object, named}
 use Rattle.lg_json.specs.Reading.Mode.{before_value, before_first, before_first_name, before_name, before_colon, in_text, after_item, ended}
+use Rattle.lg_json.specs.Fault.{EndsNumber}
 use Rattle.lg_json.specs.declared.json.JsonFault.{JsonFault}
 use Rattle.lg_json.specs.declared.json.JsonFault.TheVariants.{Syntax, NotWhole, TooWide, TooDeep, Repeated}
 use Rattle.lg_json.specs.declared.mode.Role.{Role}
@@ -19,7 +20,7 @@ use Rattle.lg_json.specs.declared.mode.TextMode.TheVariants.{Character}
 use Rattle.lg_containers.specs.declared.utf8.Utf8State.TheVariants.{Boundary}
 use Rattle.lg_json.proofs.Meets.{Meets, IsOther, Any, then_on, meets_from, meets_under, meets_before}
 use Rattle.lg_json.proofs.Meets.Meets.{goes, stops}
-use Rattle.lg_json.proofs.Reaches.{reads_one, reads_stop, reads_none, reads_at, blank_test, Passes, past_blanks, value_passes, first_passes, first_name_passes, name_passes, colon_passes, item_passes, member_passes, end_passes, begins, begins_at, value_begins, first_begins, word_null, word_true, word_false, EndsNumber, IsInNumber, number_goes}
+use Rattle.lg_json.proofs.Reaches.{reads_one, reads_stop, reads_none, reads_at, blank_test, Passes, past_blanks, value_passes, first_passes, first_name_passes, name_passes, colon_passes, item_passes, member_passes, end_passes, begins, begins_at, value_begins, first_begins, word_null, word_true, word_false, IsInNumber, number_goes}
 use Rattle.lg_json.proofs.TextRuns.{chars_run, text_reads}
 use Rattle.lg_json.proofs.Names.{has_name-push, AllNew, new_to_none, all_new_push, list_of, entries_of, trees-list_of, entries-entries_of}
 

@@ -12,3 +12,4 @@ pub mod Fit
 pub mod Utf8Texts
 pub mod Loop
 pub mod Laws
+pub mod Completing

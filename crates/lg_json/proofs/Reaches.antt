@@ -5,6 +5,7 @@ use Rattle.lg_json.specs.Tree.{Tree, Entry, trees, entries}
 use Rattle.lg_json.specs.Tree.Tree.{null, truth, whole, part, text, list, members}
 use Rattle.lg_json.specs.Grammar.{IsBlank, IsBlankByte, IsDigit, AreDigits, IsPositive, IsInt, IsWhole, number_from, signed, minus_if, InRange}
 use Rattle.lg_json.specs.Reading.{Frame, Mode, State, at, is_blank, is_digit, with_value, complete, begin, follow, after, capped, fits, begins_part, end_number, step, whole_text, finish, and_then, reads}
+use Rattle.lg_json.specs.Fault.{EndsNumber}
 use Rattle.lg_json.specs.Reading.Frame.{in_list, in_object, named}
 use Rattle.lg_json.specs.Reading.Mode.{before_value, before_first, before_first_name, before_name, before_colon, in_word, after_minus, after_zero, in_digits, in_text, after_item, ended}
 use Rattle.lg_json.specs.declared.json.JsonFault.{JsonFault}
@@ -105,10 +106,6 @@ unfolding reads step begin
 word_false i fs rest = refl
 
 -- numbers
--- no byte of a number comes next
-abbrev pub EndsNumber : List ℕ → Type 0
-EndsNumber [] = Unit {0}
-EndsNumber (b ∷ bs) = (is_digit b ≡ false) × (begins_part b ≡ false)
 
 -- a value that is complete and the state after it
 pub after_complete : (i : ℕ) (fs : List Frame) (t : Tree) (b : ℕ) → step i (complete fs t).frames (complete fs t).mode b ≡ after i fs t b

@@ -4,3 +4,4 @@ pub mod Reading
 pub mod View
 pub mod Fine
 pub mod Before
+pub mod Fault
