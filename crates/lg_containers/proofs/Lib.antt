@@ -1,1 +1,4 @@
+pub mod Each
+pub mod Placed
 pub mod Reading
+pub mod Tables

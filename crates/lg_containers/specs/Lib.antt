@@ -8,6 +8,11 @@ pub mod AssetGrammar
 pub mod AssetLaws
 pub mod CountedGrammar
 pub mod CountedLaws
+pub mod NameOrder
+pub mod NameTable
+pub mod Pairs
+pub mod Places
+pub mod CanonicalTexts
 pub mod Utf8
 pub mod Utf8Laws
 pub mod TextLaws

@@ -1,5 +1,5 @@
 -- The machine that reads a reference, and why it accepts what the grammar does.
-use Rattle.std.proofs.Common.{◌≡◌, ◌↔◌, ℕ, zero, suc, ◌+◌, ◌-◌, ◌<◌, ◌≤◌, Bool, true, false, cond, ◌&&◌, ◌==◌, IsTrue, nat_lt, List, [], ◌∷◌, ◌++◌, length, Option, Some, None, option_and_then, IsSomeAnd, IsUtf8, refl, sym, ap, ◌∙◌, subst, arith, append-nil, ltb-true, ltb-false, eqb-true}
+use Rattle.std.proofs.Common.{◌≡◌, ◌↔◌, ℕ, suc, ◌+◌, ◌-◌, ◌<◌, ◌≤◌, Bool, cond, ◌&&◌, ◌==◌, IsTrue, nat_lt, List, [], ◌∷◌, length, Option, Some, None, option_and_then, IsSomeAnd, sym, ap, ◌∙◌, subst, arith, append-nil, ltb-true, eqb-true}
 use Rattle.std.proofs.lemmas.Bool.{cond_both, cond-true, lt-ltb, and_parts, eqb-false}
 use Rattle.lg_containers.specs.Grammar.{runs, ends_well, Accepts, Lives}
 use Rattle.lg_containers.specs.GrammarLaws.{lives_along}

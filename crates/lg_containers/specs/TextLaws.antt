@@ -1,5 +1,5 @@
 -- The machine that reads UTF-8 accepts UTF-8 and nothing else.
-use Rattle.std.proofs.Common.{◌≡◌, ◌↔◌, ℕ, zero, suc, ◌-◌, ◌<◌, ◌≤◌, Bool, true, false, cond, ◌&&◌, ◌==◌, IsTrue, nat_lt, List, [], ◌∷◌, ◌++◌, Option, Some, None, option_and_then, IsSomeAnd, IsUtf8, inl, inr, refl, sym, ap, ◌∙◌, subst, arith, append_assoc, append-nil, ltb-true, ltb-false}
+use Rattle.std.proofs.Common.{◌≡◌, ◌↔◌, ℕ, ◌-◌, ◌<◌, ◌≤◌, true, ◌==◌, IsTrue, nat_lt, List, [], ◌∷◌, ◌++◌, Option, Some, None, option_and_then, IsSomeAnd, IsUtf8, inl, inr, refl, sym, ap, ◌∙◌, subst, arith, append_assoc, append-nil}
 use Rattle.std.proofs.lemmas.Bool.{cond_both, and_parts, cases_lt}
 use Rattle.std.proofs.lemmas.Str.{IsUtf8-append, IsUtf8-nil, IsUtf8-encode, encode_ascii}
 use Rattle.std.specs.Char.{IsScalar, encode_utf8}
@@ -7,7 +7,7 @@ use lib.Utf8.{scalar, scalars, encodes, low_scalar}
 use Rattle.lg_containers.specs.Grammar.{runs, ends_well, Accepts, Lives}
 use Rattle.lg_containers.specs.GrammarLaws.{lives_along}
 use Rattle.lg_containers.specs.Utf8.{lead_state, utf8_step, is_boundary, Finishes, BeginsChar}
-use Rattle.lg_containers.specs.Utf8Laws.{LeadGives, lead_begins, StepGives, step_begins, LeadOf, lead_of, lead_ascii, can_finish}
+use Rattle.lg_containers.specs.Utf8Laws.{LeadGives, lead_begins, StepGives, step_begins, lead_of, lead_ascii, can_finish}
 use Rattle.lg_containers.specs.declared.utf8.Utf8State.{Utf8State}
 use Rattle.lg_containers.specs.declared.utf8.Utf8State.TheVariants.{Boundary, Inside}
 

@@ -1,7 +1,7 @@
 -- The bytes of a character, and the states that a reading of UTF-8 goes through on them.
-use Rattle.std.proofs.Common.{◌≡◌, ◌⊎◌, ℕ, zero, suc, ◌+◌, ◌-◌, ◌*◌, ◌/◌, ◌%◌, ◌<◌, ◌≤◌, Bool, true, false, cond, nat_lt, ◌==◌, ltb, eqb, List, [], ◌∷◌, ◌++◌, Option, Some, None, IsSomeAnd, refl, sym, ap, ap₂, ◌∙◌, subst, inl, inr, arith, ltb-true, ltb-false, eqb-true, append_assoc, append-nil}
-use Rattle.std.proofs.lemmas.Bool.{cond_both, cases_eq, cases_lt, cond-true, cond-false, lt-ltb, le-ltb, eqb-false, leb-true, ne_eqb, eq-eqb}
-use Rattle.std.specs.Char.{IsScalar, encode_utf8}
+use Rattle.std.proofs.Common.{◌≡◌, ◌⊎◌, ℕ, zero, suc, ◌+◌, ◌-◌, ◌*◌, ◌/◌, ◌%◌, ◌<◌, ◌≤◌, true, cond, nat_lt, ◌==◌, ltb, List, [], ◌∷◌, ◌++◌, Option, Some, None, IsSomeAnd, refl, sym, ap, ◌∙◌, inl, inr, arith, ltb-true, ltb-false, eqb-true, append_assoc}
+use Rattle.std.proofs.lemmas.Bool.{cond_both, cases_eq, cases_lt, cond-true, cond-false, lt-ltb, le-ltb, eqb-false, ne_eqb}
+use Rattle.std.specs.Char.{encode_utf8}
 use lib.Utf8.{scalar, scalar_cases, low_scalar}
 use Rattle.lg_containers.specs.Utf8.{lead_state, utf8_step, Finishes, BeginsChar}
 use Rattle.lg_containers.specs.declared.utf8.Utf8State.{Utf8State}

@@ -3,6 +3,7 @@
 ghost use Rattle.std.specs.Prelude.{◌≡◌, IfOk};
 
 use crate::fault::NoMemory;
+use lg_base::{Amount, Volumes};
 use std::alloc::Global;
 
 /// What can be copied. A copy equals its source.
@@ -50,6 +51,18 @@ impl Duplicate for i128 {
 
 impl Duplicate for [u8; 32] {
     fn copy(&self, _alloc: Global) -> Result<[u8; 32], NoMemory> {
+        Ok(*self)
+    }
+}
+
+impl Duplicate for Amount {
+    fn copy(&self, _alloc: Global) -> Result<Amount, NoMemory> {
+        Ok(*self)
+    }
+}
+
+impl Duplicate for Volumes {
+    fn copy(&self, _alloc: Global) -> Result<Volumes, NoMemory> {
         Ok(*self)
     }
 }

@@ -1,6 +1,6 @@
 //! Why a name is refused.
 
-pub use std::alloc::AllocError as NoMemory;
+pub use lg_base::NoMemory;
 
 /// Why bytes are refused as a name.
 #[derive(Clone, Copy, Debug, Drop, PartialEq, Eq)]

@@ -4,11 +4,14 @@
 mod address;
 mod asset;
 mod bytes;
+mod canonical;
 mod counted;
 mod duplicate;
 mod fault;
+mod feeding;
 mod grammar;
 mod list;
+mod map;
 mod name;
 mod order;
 mod reference;
@@ -17,12 +20,14 @@ pub mod utf8;
 
 pub use address::{AddressGrammar, AddressState};
 pub use asset::{AssetGrammar, AssetState};
-pub use bytes::{is_code_byte, is_word_byte};
+pub use canonical::Canonical;
 pub use counted::{BucketGrammar, CountedState, KeyGrammar, LedgerNameGrammar};
 pub use duplicate::{Duplicate, copy_items};
 pub use fault::{NameFault, NoMemory};
+pub use feeding::{feed_all, feed_list, feed_members};
 pub use grammar::Grammar;
 pub use list::List;
+pub use map::NameMap;
 pub use name::Name;
 pub use reference::{ReferenceGrammar, ReferenceState};
 pub use text::TextGrammar;
@@ -47,3 +52,12 @@ pub type Text = Name<TextGrammar>;
 
 /// The reference of a transaction.
 pub type Reference = Name<ReferenceGrammar>;
+
+/// Metadata: texts under names.
+pub type Meta = NameMap<TextGrammar, Text>;
+
+/// Metadata of accounts.
+pub type AccountMeta = NameMap<AddressGrammar, Meta>;
+
+#[cfg(test)]
+mod tests;

@@ -1,0 +1,5 @@
+pub mod Buffered
+pub mod Escapes
+pub mod Feeds
+pub mod Slices
+pub mod Writing

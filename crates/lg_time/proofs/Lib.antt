@@ -1,0 +1,4 @@
+pub mod CalendarLemmas
+pub mod CanonicalLemmas
+pub mod Facts
+pub mod ReadLemmas

@@ -1,0 +1,4 @@
+pub mod Prefixes
+pub mod Eachs
+pub mod MarkedLists
+pub mod Shares

@@ -1,0 +1,14 @@
+pub mod Changes
+pub mod EntryTexts
+pub mod Known
+pub mod Lists
+pub mod Log
+pub mod Marked
+pub mod Moments
+pub mod Moves
+pub mod Parts
+pub mod PartTexts
+pub mod RecordPartTexts
+pub mod Stripes
+pub mod Tally
+pub mod Trial
