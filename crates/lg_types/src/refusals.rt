@@ -121,6 +121,8 @@ pub enum Refusal {
     Used { reference: Reference, id: u64 },
     /// The line of an import is bad; line 0 stands for the whole.
     Import { line: u64, cause: ImportCause },
+    /// What is asked is not built.
+    NotBuilt,
     /// Memory is wanting.
     OutOfMemory,
 }
@@ -230,6 +232,7 @@ impl Duplicate for Refusal {
                 line: *line,
                 cause: cause.copy(alloc)?,
             }),
+            Refusal::NotBuilt => Ok(Refusal::NotBuilt),
             Refusal::OutOfMemory => Ok(Refusal::OutOfMemory),
         }
     }

@@ -1,0 +1,10 @@
+//! Scripts: their lines, and what they ask for.
+#![tactic(auto)]
+
+mod lines;
+mod requests;
+mod text_lines;
+
+pub use lg_base::NoMemory;
+pub use lines::ScriptLine;
+pub use requests::{PostingParts, RequestParts};
