@@ -1,7 +1,7 @@
 -- What a JSON value (RFC 8259) asks for, where it is the object of a script's line.
 use Rattle.std.specs.Prelude.{◌≡◌, ℕ, ◌<◌, ◌^◌, ℤ, pos, negsuc, Bool, true, false, ◌&&◌, if◌then◌else◌, List, [], ◌∷◌, Option, Some, None, All, codes}
 use Rattle.std.specs.List.{list_any}
-use Rattle.std.specs.Option.{option_and_then}
+use Rattle.std.specs.Option.{option_and_then, option_map}
 use Rattle.std.specs.Str.{bytes_eq}
 use Rattle.lg_containers.specs.AddressGrammar.{IsAddress}
 use Rattle.lg_containers.specs.AssetGrammar.{IsAsset}
@@ -68,17 +68,19 @@ abbrev pub postings_of : Trees → Option (List Posting)
 postings_of none = Some []
 postings_of (item t ts) = before_all (posting_of t) (postings_of ts)
 
+abbrev pub items_of : Tree → Option Trees
+items_of (list ts) = Some ts
+items_of _ = None
+
 -- the items of a body's postings: none where the member isn't there
 abbrev pub items_under : Option Tree → Option Trees
 items_under None = Some none
-items_under (Some (list ts)) = Some ts
-items_under (Some _) = None
+items_under (Some value) = items_of value
 
--- a body's timestamp: none where the member isn't there
+-- a body's timestamp, as it is written: none where the member isn't there
 abbrev pub timestamp_under : Option Tree → Option (Option (List ℕ))
 timestamp_under None = Some None
-timestamp_under (Some (text t)) = Some (Some t)
-timestamp_under (Some _) = None
+timestamp_under (Some value) = option_map Some (text_of value)
 
 -- what a line asks for: the creation of a transaction, with its moments and postings as they are written
 pub record Request : Type 0 where
@@ -86,20 +88,19 @@ pub record Request : Type 0 where
   pub timestamp : Option (List ℕ)
   pub postings : Trees
 
-abbrev pub request_with : Option (List ℕ) → Option (Option (List ℕ)) → Option Trees → Option Request
-request_with (Some n) (Some t) (Some ps) = Some (record { now = n; timestamp = t; postings = ps })
-request_with _ _ _ = None
+abbrev pub request_with : List ℕ → Option (Option (List ℕ)) → Option Trees → Option Request
+request_with n (Some t) (Some ps) = Some (record { now = n; timestamp = t; postings = ps })
+request_with n _ _ = None
 
 abbrev pub body_names : List (List ℕ)
 body_names = codes "postings" ∷ codes "timestamp" ∷ []
 
--- the request of a line with this moment and this body: an object with no members but these two
-abbrev pub request_in : Option (List ℕ) → Tree → Option Request
-request_in now (members ms) =
+-- the request of a line with this moment and a body of these members: no members but these two
+abbrev pub request_in : List ℕ → Members → Option Request
+request_in now ms =
     if has_only body_names ms
     then request_with now (timestamp_under (value_of (codes "timestamp") ms)) (items_under (value_of (codes "postings") ms))
     else None
-request_in now _ = None
 
 abbrev pub is_text : List ℕ → Option (List ℕ) → Bool
 is_text t None = false
@@ -108,17 +109,33 @@ is_text t (Some u) = bytes_eq u t
 abbrev pub line_names : List (List ℕ)
 line_names = codes "now" ∷ codes "method" ∷ codes "path" ∷ codes "body" ∷ []
 
--- whether these are the members of a line that creates a transaction on the ledger `default`
+-- whether these are the members of a line that creates a transaction on the ledger `default`: no members but these
+-- four, and this method and this path
 abbrev pub is_creation : Members → Bool
 is_creation ms =
-    has_only line_names ms && (is_text (codes "POST") (text_under (codes "method") ms) && is_text (codes "/v2/default/transactions") (text_under (codes "path") ms))
+    if has_only line_names ms
+    then if is_text (codes "POST") (text_under (codes "method") ms)
+      then is_text (codes "/v2/default/transactions") (text_under (codes "path") ms)
+      else false
+    else false
 
--- the request of a line: an object with exactly these four members, with this method and this path
-abbrev pub request_of : Tree → Option Request
-request_of (members ms) =
+abbrev pub members_of : Tree → Option Members
+members_of (members ms) = Some ms
+members_of _ = None
+
+abbrev pub request_under : Option (List ℕ) → Option Members → Option Request
+request_under (Some now) (Some body) = request_in now body
+request_under _ _ = None
+
+abbrev pub request_among : Members → Option Request
+request_among ms =
     if is_creation ms
-    then option_and_then (request_in (text_under (codes "now") ms)) (value_of (codes "body") ms)
+    then request_under (text_under (codes "now") ms) (option_and_then members_of (value_of (codes "body") ms))
     else None
+
+-- the request of a line: an object with exactly the members `now`, a text, `method`, `path` and `body`, an object
+abbrev pub request_of : Tree → Option Request
+request_of (members ms) = request_among ms
 request_of _ = None
 
 -- the parts of a posting are of their grammars, and its amount is within the limit
