@@ -11,11 +11,11 @@ use Rattle.lg_types.specs.declared.records.Posting.{Posting}
 use Rattle.lg_types.specs.declared.refusals.Refusal.TheVariants.{NoPostings, NotBuilt}
 use Rattle.lg_batch.specs.Requests.{Request, request_of, posting_of, postings_of, IsInGrammar}
 
--- what was looked for, and none where there is nothing such
+-- something that the fact holds of, and none where there is nothing such
 abbrev pub IsFound : {A : Type 0} → (A → Type 0) → Option A → Type 0
 IsFound {A} P found = MatchOption found ((a : A) → ¬ (P a)) P
 
--- the value shows this posting, of names and an amount in their grammars
+-- the value shows this posting, with names and an amount of their grammars
 pub record Shows (value : Tree) (posting : Posting) : Type 0 where
   pub is_posting : posting_of value ≡ Some posting
   pub in_grammar : IsInGrammar posting
@@ -38,13 +38,17 @@ pub record Asked : Type 0 where
   pub timestamp : Option ℤ
   pub postings : List Posting
 
+-- what is written in the request means this
+pub record Means (request : Request) (asked : Asked) : Type 0 where
+  pub moment : IsMoment request.now asked.moment
+  pub timestamp : AreMoments request.timestamp asked.timestamp
+  pub postings : ShowAll request.postings asked.postings
+
 -- the value asks for this
 pub record Asks (value : Tree) (asked : Asked) : Type 0 where
   pub request : Request
   pub is_request : request_of value ≡ Some request
-  pub moment : IsMoment request.now asked.moment
-  pub timestamp : AreMoments request.timestamp asked.timestamp
-  pub postings : ShowAll request.postings asked.postings
+  pub means : Means request asked
 
 -- the bytes are a JSON text, and its value asks for this
 pub record LineAsks (bytes : List ℕ) (asked : Asked) : Type 0 where

@@ -3,8 +3,10 @@
 
 mod lines;
 mod requests;
+
+mod stage;
 mod text_lines;
 
 pub use lg_base::NoMemory;
 pub use lines::ScriptLine;
-pub use requests::{PostingParts, RequestParts};
+
