@@ -1,1 +1,4 @@
 pub mod Cuts
+pub mod Shown
+pub mod Found
+pub mod Numbered

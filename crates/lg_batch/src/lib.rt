@@ -3,10 +3,12 @@
 
 mod lines;
 mod requests;
+mod script;
 
 mod stage;
 mod text_lines;
 
 pub use lg_base::NoMemory;
 pub use lines::ScriptLine;
+pub use script::{Script, read_script};
 

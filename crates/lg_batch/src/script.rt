@@ -1,0 +1,90 @@
+//! Scripts.
+
+ghost use Rattle.std.specs.Prelude.{◌≡◌, length, IfOk, slice_get};
+ghost use Rattle.std.specs.Option.{option_copied};
+ghost use Rattle.lg_batch.specs.Lines.{AreLines};
+ghost use Rattle.lg_batch.specs.Reads.{Appends};
+
+use crate::lines::ScriptLine;
+use crate::stage::read_line;
+use crate::text_lines::cut_line;
+use lg_base::NoMemory;
+use std::alloc::Global;
+use std::marker::Model;
+
+/// A script, seen as the list of its lines.
+#[derive(Drop)]
+pub struct Script {
+    lines: Vec<ScriptLine>,
+}
+
+impl Model for Script {
+    ghost use Rattle.std.specs.Prelude.{List};
+    ghost use Rattle.lg_batch.specs.declared.lines.ScriptLine.{ScriptLine};
+
+    ghost Value = { List ScriptLine };
+
+    ghost view = { λ s. s.lines.items };
+}
+
+impl Script {
+    /// The lines.
+    pub fn as_slice(&self) -> &[ScriptLine]
+        ensures { result.now ≡ self.now }
+    {
+        self.lines.as_slice()
+    }
+
+    /// How many lines there are.
+    pub fn len(&self) -> usize
+        ensures { result ≡ length self.now }
+    {
+        self.lines.len()
+    }
+
+    /// The line at the place, counted from 0, and `None` exactly past the end.
+    pub fn get(&self, place: usize) -> Option<&ScriptLine>
+        ensures { option_copied result ≡ slice_get self.now place }
+    {
+        self.lines.get(place)
+    }
+}
+
+/// The script of these bytes: its lines are cut at newlines, a carriage return before a newline is dropped, and a
+/// line without bytes is counted and left out.
+pub fn read_script(alloc: Global, bytes: &[u8]) -> Result<Script, NoMemory>
+    ensures { IfOk result (λ s. AreLines bytes.now s) }
+{
+    let lines = read_lines(alloc, bytes)?;
+    Ok(Script { lines })
+}
+
+fn read_lines(alloc: Global, bytes: &[u8]) -> Result<Vec<ScriptLine>, NoMemory>
+    ensures { IfOk result (λ v. AreLines bytes.now v.items) }
+{
+    let mut lines = Vec::new(alloc);
+    let mut number: u64 = 1;
+    let mut rest = bytes;
+    'lines: while !rest.is_empty() {
+        let (line, after) = cut_line(rest);
+        lines = append_line(alloc, lines, number, line)?;
+        number += 1;
+        rest = after;
+    }
+    Ok(lines)
+}
+
+/// The lines with one more, where it has bytes.
+fn append_line(
+    alloc: Global,
+    mut lines: Vec<ScriptLine>,
+    number: u64,
+    bytes: &[u8],
+) -> Result<Vec<ScriptLine>, NoMemory>
+    ensures { IfOk result (λ v. Appends (number, bytes.now) lines.items v.items) }
+{
+    if !bytes.is_empty() {
+        lines.push(read_line(alloc, number, bytes)?)?;
+    }
+    Ok(lines)
+}
