@@ -1,9 +1,9 @@
 -- Bytes that wait in front of a sink: how writing them, and writing past them, keeps what stands there.
-use Rattle.std.proofs.Common.{◌≡◌, ℕ, ◌+◌, ◌-◌, ◌^◌, ◌≤◌, min, List, [], ◌++◌, length, drop, refl, sym, ◌∙◌, ap, subst, append_assoc, arith}
-use Rattle.std.specs.Prelude.{Option, Some, None, Result, Ok, Err, OnOk, OnErr}
+use Rattle.std.proofs.Common.{◌≡◌, ℕ, ◌≤◌, List, [], ◌++◌, length, refl, sym, ◌∙◌, ap, subst, append_assoc, arith}
+use Rattle.std.specs.Prelude.{Option, Some, None, Result}
 use Rattle.std.proofs.lemmas.List.{append-nil, drop_all}
 use Rattle.std.proofs.lemmas.Result.{on_ok_weaker, on_err_weaker}
-use Rattle.lg_base.specs.Growth.{Rose, HasCause, Gives}
+use Rattle.lg_base.specs.Growth.{Rose, Gives}
 use Rattle.lg_base.specs.Told.{Told, added}
 use Rattle.lg_base.specs.Buffering.{Ahead, ToldInPart}
 use Rattle.lg_base.specs.Waiting.{waiting, AheadOf}

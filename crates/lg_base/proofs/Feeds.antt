@@ -1,9 +1,9 @@
 -- How the clauses of calls that give a text compose. Written once, for every layer that feeds or writes.
-use Rattle.std.proofs.Common.{◌≡◌, ℕ, ◌+◌, ◌-◌, ◌^◌, ◌≤◌, ◌<◌, min, length, take, drop, List, [], ◌∷◌, ◌++◌, refl, sym, ◌∙◌, ap, subst, append_assoc, arith}
-use Rattle.std.specs.Prelude.{true, false, Result, Ok, Err, OnOk, OnErr, IsErr, flat_map}
+use Rattle.std.proofs.Common.{◌≡◌, ℕ, List, [], ◌++◌, refl, sym, ◌∙◌, ap, subst, append_assoc, arith}
+use Rattle.std.specs.Prelude.{true, false, Result, Ok, Err, IsErr}
 use Rattle.std.proofs.lemmas.List.{append-nil}
 use Rattle.std.proofs.lemmas.Result.{on_ok_weaker, on_err_weaker}
-use Rattle.lg_base.specs.Growth.{Rose, HasCause, Grows, GrowsInPart, Gives, Completes}
+use Rattle.lg_base.specs.Growth.{Rose, Gives, Completes}
 
 -- a text given whole, and then another
 pub then : {F T U E : Type 0} {fed : F → List ℕ → Type 0} {stops : F → ℕ} {lent : F → ℕ} {s t v : F} {p q : List ℕ} {u : T} {r : Result U E}

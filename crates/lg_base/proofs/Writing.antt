@@ -1,8 +1,8 @@
 -- One write to a sink, as the clause of a call that writes.
-use Rattle.std.proofs.Common.{◌≡◌, ℕ, ◌≤◌, List, [], ◌++◌, refl, sym, ◌∙◌, ap, subst}
-use Rattle.std.specs.Prelude.{Option, Some, None, Result, Ok, Err}
+use Rattle.std.proofs.Common.{◌≡◌, ℕ, ◌≤◌, List, [], ◌++◌, refl, sym, ap, subst}
+use Rattle.std.specs.Prelude.{Option, Some, None, Ok, Err}
 use Rattle.std.proofs.lemmas.List.{append-nil}
-use Rattle.lg_base.specs.Growth.{Rose, HasCause, Gives}
+use Rattle.lg_base.specs.Growth.{Rose, Gives}
 use Rattle.lg_base.specs.Told.{Told, added}
 
 -- what is told after bytes were added

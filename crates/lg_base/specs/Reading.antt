@@ -1,5 +1,5 @@
 -- Reading a source to its end.
-use Rattle.std.specs.Prelude.{◌≡◌, ℕ, ◌+◌, ◌≤◌, ◌<◌, List, ◌++◌, length}
+use Rattle.std.specs.Prelude.{◌≡◌, ℕ, ◌≤◌, ◌<◌, List, ◌++◌, length}
 use Rattle.lg_base.specs.Growth.{Rose}
 use Rattle.lg_base.specs.Told.{given, IsAtEnd}
 use Rattle.lg_base.specs.declared.source.Source.{Ghosts as SourceGhosts}

@@ -1,5 +1,5 @@
 -- Texts that every layer prints: strings as RFC 8259, section 7 writes them.
-use Rattle.std.specs.Prelude.{ℕ, ◌+◌, ◌/◌, ◌%◌, ◌==◌, nat_lt, if◌then◌else◌, List, [], ◌∷◌, ◌++◌, Bool, true, false, ◌&&◌, ◌||◌, not, codes}
+use Rattle.std.specs.Prelude.{ℕ, ◌+◌, ◌/◌, ◌%◌, ◌==◌, nat_lt, if◌then◌else◌, List, [], ◌∷◌, ◌++◌, Bool, ◌&&◌, not, codes}
 use Rattle.std.specs.List.{flat_map}
 
 -- a hexadecimal digit in lower case

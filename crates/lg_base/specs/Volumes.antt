@@ -1,5 +1,5 @@
 -- Volumes of an account and an asset: what came in and what went out.
-use Rattle.std.specs.Prelude.{ℕ, ℤ, ◌+◌, ◌^◌, ◌<◌, pos, ◌-ℤ◌}
+use Rattle.std.specs.Prelude.{ℤ, ◌+◌, ◌^◌, ◌<◌, pos, ◌-ℤ◌}
 use Rattle.lg_base.specs.declared.amounts.Volumes.{Volumes}
 
 -- both sums are at most 2 ^ 127 - 1

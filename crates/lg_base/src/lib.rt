@@ -31,7 +31,7 @@ pub use sink_feed::{SinkFeed, write_whole};
 pub use source::Source;
 pub use status::Status;
 pub use std::alloc::AllocError as NoMemory;
-pub use texts::{feed_json_text, feed_number};
+pub use texts::{feed_escaped, feed_json_text, feed_number};
 
 #[cfg(test)]
 mod tests;

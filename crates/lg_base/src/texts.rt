@@ -27,8 +27,10 @@ pub fn feed_json_text<F: Feed>(text: &[u8], to: &mut F) -> Result<(), Stop>
     to.piece(b"\"")
 }
 
-/// Feeds each run of plain bytes as one piece, and each other byte by its escape.
-fn feed_escaped<F: Feed>(text: &[u8], to: &mut F) -> Result<(), Stop>
+/// Feeds a text as it stands between the quotes of a JSON string, so that a string may be fed in parts.
+///
+/// Each run of plain bytes is one piece, and each other byte is fed by its escape.
+pub fn feed_escaped<F: Feed>(text: &[u8], to: &mut F) -> Result<(), Stop>
     ensures { Feeds F.Feed to.old to.new (flat_map escaped text.now) result }
 {
     let mut start = 0;

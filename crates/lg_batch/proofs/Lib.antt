@@ -1,3 +1,6 @@
+pub mod LogLemmas
+pub mod TotalLemmas
+pub mod TrialLemmas
 pub mod Cuts
 pub mod Shown
 pub mod Found

@@ -2,7 +2,7 @@
 use Rattle.std.proofs.Common.{◌≡◌, ℕ, ◌+◌, ◌≤◌, List, [], ◌∷◌, ◌++◌, length, refl, ap, sym, subst, ◌∙◌, append_assoc, append-nil, arith}
 use Rattle.std.specs.List.{filter, enumerate_from, AllZip}
 use Rattle.std.specs.Str.Lines.{lines}
-use Rattle.lg_batch.specs.declared.lines.ScriptLine.{ScriptLine}
+use Rattle.lg_views.specs.declared.lines.ScriptLine.{ScriptLine}
 use Rattle.lg_batch.specs.Lines.{IsLine, has_bytes, numbered, AreLines}
 use Rattle.lg_batch.specs.Reads.{Appends}
 

@@ -3,7 +3,7 @@ use Rattle.std.specs.Prelude.{◌≡◌, ℕ, Bool, true, false, List, [], ◌�
 use Rattle.std.specs.List.{filter, enumerate_from, AllZip}
 use Rattle.std.specs.Str.Lines.{lines}
 use Rattle.lg_batch.specs.Stage.{IsCallOf}
-use Rattle.lg_batch.specs.declared.lines.ScriptLine.{ScriptLine}
+use Rattle.lg_views.specs.declared.lines.ScriptLine.{ScriptLine}
 
 abbrev pub has_bytes : ℕ × List ℕ → Bool
 has_bytes (n, []) = false

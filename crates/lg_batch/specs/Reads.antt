@@ -2,7 +2,7 @@
 use Rattle.std.specs.Prelude.{◌≡◌, ℕ, List, [], ◌∷◌, ◌++◌, Option, MatchOption}
 use Rattle.std.specs.List.{AllZip, filter}
 use Rattle.lg_types.specs.declared.records.Posting.{Posting}
-use Rattle.lg_batch.specs.declared.lines.ScriptLine.{ScriptLine}
+use Rattle.lg_views.specs.declared.lines.ScriptLine.{ScriptLine}
 use Rattle.lg_batch.specs.declared.stage.Creation.{Creation}
 use Rattle.lg_batch.specs.Requests.{IsInGrammar}
 use Rattle.lg_batch.specs.Stage.{Asked}

@@ -5,10 +5,10 @@ ghost use Rattle.std.specs.Option.{option_copied};
 ghost use Rattle.lg_batch.specs.Lines.{AreLines};
 ghost use Rattle.lg_batch.specs.Reads.{Appends};
 
-use crate::lines::ScriptLine;
 use crate::stage::read_line;
 use crate::text_lines::cut_line;
 use lg_base::NoMemory;
+use lg_views::ScriptLine;
 use std::alloc::Global;
 use std::marker::Model;
 
@@ -20,9 +20,13 @@ pub struct Script {
 
 impl Model for Script {
     ghost use Rattle.std.specs.Prelude.{List};
-    ghost use Rattle.lg_batch.specs.declared.lines.ScriptLine.{ScriptLine};
+    ghost use Rattle.std.specs.Coded.{coded_list};
+    ghost use Rattle.lg_views.specs.contracts.lines.ScriptLine as line;
+    ghost use Rattle.lg_views.specs.declared.lines.ScriptLine.{ScriptLine};
 
     ghost Value = { List ScriptLine };
+
+    ghost coded = { coded_list line.the_row.coded };
 
     ghost view = { λ s. s.lines.items };
 }

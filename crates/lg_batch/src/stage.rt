@@ -9,7 +9,6 @@ ghost use Rattle.lg_batch.specs.Stage.{IsFound, Shows, ShowAll, AreMoments, Mean
 ghost use Rattle.lg_batch.specs.Lines.{IsLine};
 ghost use Rattle.lg_batch.specs.Reads.{asked_view, IsNameOf, IsPostingOf};
 
-use crate::lines::ScriptLine;
 use crate::requests::{PostingParts, RequestParts, posting_parts, request_parts};
 use lg_base::{Amount, NoMemory};
 use lg_containers::{
@@ -18,6 +17,7 @@ use lg_containers::{
 use lg_json::{Json, JsonFault};
 use lg_time::read_moment;
 use lg_types::{Call, Posting, Postings, Refusal, Text, Write};
+use lg_views::ScriptLine;
 use std::alloc::Global;
 
 /// A creation that a line asks for: its moment and its timestamp are in microseconds since 1970-01-01T00:00:00Z.

@@ -1,3 +1,5 @@
+pub mod CallTexts
+pub mod Chain
 pub mod Changes
 pub mod EntryTexts
 pub mod Known

@@ -1,0 +1,13 @@
+pub mod Bulk
+pub mod Filters
+pub mod History
+pub mod Import
+pub mod Laws
+pub mod Outcome
+pub mod Pages
+pub mod Pairs
+pub mod Reads
+pub mod Replies
+pub mod Tokens
+pub mod Views
+pub mod Writes

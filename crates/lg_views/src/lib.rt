@@ -2,18 +2,21 @@
 #![tactic(auto)]
 
 mod answers;
+mod decided;
 mod items;
+mod lines;
 mod replies;
 mod views;
 
 pub use answers::Answer;
+pub use decided::{Decided, Written};
 pub use items::Items;
-pub use lg_types::{NoMemory, Volumes};
-pub use replies::{BulkItem, BulkView, Action, Content, PageView, Reply};
-pub use views::{AccountView, BalanceItem, TransactionView, VolumeItem};
-
 use lg_containers::{AddressGrammar, AssetGrammar, List, NameMap};
 use lg_types::LedgerInfo;
+pub use lg_types::{NoMemory, Volumes};
+pub use lines::ScriptLine;
+pub use replies::{Action, BulkItem, BulkView, Content, PageView, Reply};
+pub use views::{AccountView, BalanceItem, TransactionView, VolumeItem};
 
 /// Volumes of assets.
 pub type AssetVolumes = NameMap<AssetGrammar, Volumes>;

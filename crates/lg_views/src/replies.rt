@@ -28,7 +28,10 @@ pub enum BulkItem {
         transaction: Option<TransactionView>,
     },
     /// The place of the element, counted from 0, and its refusal.
-    Failed { element: u64, refusal: Refusal },
+    Failed {
+        element: u64,
+        refusal: Refusal,
+    },
 }
 
 /// What became of a list.

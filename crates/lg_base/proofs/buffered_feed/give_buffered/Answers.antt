@@ -1,4 +1,3 @@
-use Rattle.std.proofs.Common.{◌≡◌, length, arith}
 use Rattle.lg_base.proofs.Buffered.{written_past, nothing_waits}
 use Rattle.lg_base.proofs.buffered_feed.give_buffered.Goals as goal
 

@@ -1,4 +1,4 @@
-use Rattle.std.proofs.Common.{ℕ, ◌+◌, ◌≤◌, List, length, drop, arith}
+use Rattle.std.proofs.Common.{arith}
 use Rattle.lg_base.proofs.Buffered.{ahead_written}
 use Rattle.lg_base.proofs.Slices.{left_splits}
 use Rattle.lg_base.proofs.buffered_feed.write_from.Goals as goal

@@ -1,5 +1,5 @@
-use Rattle.std.proofs.Common.{◌≡◌, ℕ, ◌+◌, ◌-◌, ◌≤◌, List, ◌++◌, length, take, drop, sym, subst, arith}
-use Rattle.lg_base.specs.Growth.{Gives, Completes}
+use Rattle.std.proofs.Common.{ℕ, ◌≤◌, List, length, subst, arith}
+use Rattle.lg_base.specs.Growth.{Completes}
 use Rattle.lg_base.specs.Told.{Told}
 use Rattle.lg_base.specs.declared.feed.Stop.{Stop}
 use Rattle.lg_base.proofs.Feeds.{Completes-more, Completes-end}

@@ -1,4 +1,4 @@
-use Rattle.std.proofs.Common.{◌≡◌, ℕ, ◌+◌, ◌-◌, ◌≤◌, List, ◌++◌, length, drop, get_or, sym, subst, arith}
+use Rattle.std.proofs.Common.{ℕ, ◌+◌, ◌≤◌, List, length, sym, subst, arith}
 use Rattle.std.specs.List.{flat_map}
 use Rattle.lg_base.specs.Growth.{Completes}
 use Rattle.lg_base.specs.Texts.{escaped}

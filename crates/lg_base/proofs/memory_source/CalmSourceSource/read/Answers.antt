@@ -1,4 +1,4 @@
-use Rattle.std.proofs.Common.{◌≡◌, ℕ, ◌+◌, List, ◌++◌, Some, drop, sym, ◌∙◌, ap}
+use Rattle.std.proofs.Common.{ℕ, ◌+◌, List, ◌++◌, Some, drop, sym, ◌∙◌, ap}
 use Rattle.lg_base.proofs.Slices.{left_splits}
 use Rattle.lg_base.proofs.memory_source.CalmSourceSource.read.Goals as goal
 
