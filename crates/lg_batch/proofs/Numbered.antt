@@ -1,5 +1,5 @@
 -- Lines that are read one after the other.
-use Rattle.std.proofs.Common.{◌≡◌, ℕ, ◌+◌, ◌≤◌, List, [], ◌∷◌, ◌++◌, length, refl, ap, sym, subst, ◌∙◌, append_assoc, append-nil, arith}
+use Rattle.std.proofs.Common.{◌≡◌, ℕ, ◌==◌, true, false, ◌+◌, ◌≤◌, List, [], ◌∷◌, ◌++◌, length, refl, ap, sym, subst, ◌∙◌, append_assoc, append-nil, arith, eqb-true}
 use Rattle.std.specs.List.{filter, enumerate_from, AllZip}
 use Rattle.std.specs.Str.Lines.{lines}
 use Rattle.lg_views.specs.declared.lines.ScriptLine.{ScriptLine}
@@ -31,7 +31,22 @@ goes_on bytes left line after read new number before cut count adds = record {
   count = count
 }
 
-pub goes_done : (bytes left : List ℕ) (read : List ScriptLine) (number : ℕ) → left ≡ [] → Goes bytes read number left → AreLines bytes read
+no_bytes : (bs : List ℕ) → (length bs == 0) ≡ true → bs ≡ []
+no_bytes [] e = refl
+no_bytes (b ∷ bs) e = let z : length (b ∷ bs) ≡ 0 = eqb-true (length (b ∷ bs)) 0 e in absurd (omega arith)
+
+-- what was read at the end of the bytes
+pub goes_done : (bytes left : List ℕ) (read : List ScriptLine) (number : ℕ) → (length left == 0) ≡ true → Goes bytes read number left → AreLines bytes read
 goes_done bytes left read number done before =
     subst (λ (ls : List ScriptLine). AllZip IsLine (numbered 1 bytes) ls) (append-nil read)
-      (before.on [] (subst (λ (bs : List ℕ). AllZip IsLine (numbered number bs) []) (sym done) tt))
+      (before.on [] (subst (λ (bs : List ℕ). AllZip IsLine (numbered number bs) []) (sym (no_bytes left done)) tt))
+
+-- a line without bytes is left out
+pub appends_none : (number : ℕ) (bytes : List ℕ) (old : List ScriptLine) → (length bytes == 0) ≡ true → Appends (number, bytes) old old
+appends_none number [] old empty = record { added = []; joined = sym (append-nil old); is_line = tt }
+appends_none number (b ∷ bs) old empty =
+    let z : length (b ∷ bs) ≡ 0 = eqb-true (length (b ∷ bs)) 0 empty in absurd (omega arith)
+
+pub appends_one : (number : ℕ) (bytes : List ℕ) (old new : List ScriptLine) (l : ScriptLine) → (length bytes == 0) ≡ false → IsLine (number, bytes) l → new ≡ old ++ l ∷ [] → Appends (number, bytes) old new
+appends_one number [] old new l some is_line joined = cc
+appends_one number (b ∷ bs) old new l some is_line joined = record { added = l ∷ []; joined = joined; is_line = (is_line, tt) }

@@ -87,8 +87,9 @@ fn append_line(
 ) -> Result<Vec<ScriptLine>, NoMemory>
     ensures { IfOk result (λ v. Appends (number, bytes.now) lines.items v.items) }
 {
-    if !bytes.is_empty() {
-        lines.push(read_line(alloc, number, bytes)?)?;
+    if bytes.is_empty() {
+        return Ok(lines);
     }
+    lines.push(read_line(alloc, number, bytes)?)?;
     Ok(lines)
 }
