@@ -16,8 +16,8 @@ first_part : (p : ℕ → Bool) (x : List ℕ) (bs : List ℕ) → lines_of_part
 first_part p x [] = refl
 first_part p x (b ∷ bs) =
     elim (p b) as (λ v. lines_of_parts (x ∷ cond v ([] ∷ slice_split p bs) (onto_first b (slice_split p bs))) ≡ strip_carriage_return x ∷ lines_of_parts (cond v ([] ∷ slice_split p bs) (onto_first b (slice_split p bs)))) [
-      true ↦ refl
-    | false ↦ onto x b (slice_split p bs)
+      | true ↦ refl
+      | false ↦ onto x b (slice_split p bs)
     ]
 
 one_part : (bs : List ℕ) → 0 < length bs → lines_of_parts (bs ∷ []) ≡ bs ∷ []
@@ -37,7 +37,7 @@ pub cut_at : (bs : List ℕ) (end : ℕ) → position (λ b. b == 10) bs ≡ Som
 cut_at bs end found =
     let facts = place_some (place bs) (length bs) end found in
     subst (λ (n : ℕ). lines bs ≡ strip_carriage_return (take n bs) ∷ lines (drop (n + 1) bs)) facts.0
-      (ap lines_of_parts (slice_split_first (λ b. b == 10) bs 0 facts.1) ∙ first_part (λ b. b == 10) (take (place bs) bs) (drop (place bs + 1) bs))
+    (ap lines_of_parts (slice_split_first (λ b. b == 10) bs 0 facts.1) ∙ first_part (λ b. b == 10) (take (place bs) bs) (drop (place bs + 1) bs))
 
 -- a newline stands within the text
 pub cut_within : (bs : List ℕ) (end : ℕ) → position (λ b. b == 10) bs ≡ Some end → end < length bs
@@ -58,4 +58,4 @@ whole_rest n bs = grind (arith, common_steps)
 pub cut_here : (bs : List ℕ) (end : ℕ) (first : List ℕ) → position (λ b. b == 10) bs ≡ Some end → first ≡ strip_carriage_return (take end bs) → lines bs ≡ first ∷ lines (take (length bs - (end + 1)) (drop (end + 1) bs))
 cut_here bs end first found is =
     subst (λ (x : List ℕ). lines bs ≡ x ∷ lines (take (length bs - (end + 1)) (drop (end + 1) bs))) (sym is)
-      (subst (λ (rest : List ℕ). lines bs ≡ strip_carriage_return (take end bs) ∷ lines rest) (sym (whole_rest (end + 1) bs)) (cut_at bs end found))
+    (subst (λ (rest : List ℕ). lines bs ≡ strip_carriage_return (take end bs) ∷ lines rest) (sym (whole_rest (end + 1) bs)) (cut_at bs end found))

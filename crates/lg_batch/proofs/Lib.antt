@@ -5,3 +5,4 @@ pub mod Cuts
 pub mod Shown
 pub mod Found
 pub mod Numbered
+pub mod Built

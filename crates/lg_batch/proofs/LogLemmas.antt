@@ -65,7 +65,7 @@ creation_refused g ps timestamp now r e =
     let write : Write = Create ps None timestamp table.empty table.empty false in
     let body : EntryBody = NewTransaction (new_transaction g (date g now) ps table.empty None timestamp) table.empty in
     sym (ap (λ (h : List Entry). on_ledger the_ledger (write_answer h (written h None write now))) (log_of_events g)
-      ∙ ap (λ (t : Option Refusal). on_ledger the_ledger (write_answer g (appended_if g (date g now) None (granted_unless (or_else t None) body)))) e)
+    ∙ ap (λ (t : Option Refusal). on_ledger the_ledger (write_answer g (appended_if g (date g now) None (granted_unless (or_else t None) body)))) e)
 
 -- a creation that the trial accepts
 pub creation_accepted : (g : List Entry) (ps : List Posting) (timestamp : Option ℤ) (now : ℤ)
@@ -76,7 +76,7 @@ creation_accepted g ps timestamp now e =
     let write : Write = Create ps None timestamp table.empty table.empty false in
     let body : EntryBody = NewTransaction (new_transaction g (date g now) ps table.empty None timestamp) table.empty in
     sym (ap (λ (h : List Entry). on_ledger the_ledger (write_answer h (written h None write now))) (log_of_events g)
-      ∙ ap (λ (t : Option Refusal). on_ledger the_ledger (write_answer g (appended_if g (date g now) None (granted_unless (or_else t None) body)))) e)
+    ∙ ap (λ (t : Option Refusal). on_ledger the_ledger (write_answer g (appended_if g (date g now) None (granted_unless (or_else t None) body)))) e)
 
 -- a request that can't be read
 pub unreadable_refused : (events : List Event) (r : Refusal) (now : ℤ) → (refused r, []) ≡ outcome events (Unreadable r) now

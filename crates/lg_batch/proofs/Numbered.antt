@@ -24,11 +24,11 @@ joined number (b ∷ bs) places (l ∷ (m ∷ ls)) more first rest = absurd firs
 pub goes_on : (bytes left line after : List ℕ) (read new : List ScriptLine) (number : ℕ) → Goes bytes read number left → lines left ≡ line ∷ lines after → number + 1 + length after ≤ length bytes + 1 → Appends (number, line) read new → Goes bytes new (number + 1) after
 goes_on bytes left line after read new number before cut count adds = record {
   on = λ more are.
-    subst (λ (ls : List ScriptLine). AllZip IsLine (numbered 1 bytes) ls) (sym (append_assoc read adds.added more) ∙ ap (λ (ls : List ScriptLine). ls ++ more) (sym adds.joined))
+      subst (λ (ls : List ScriptLine). AllZip IsLine (numbered 1 bytes) ls) (sym (append_assoc read adds.added more) ∙ ap (λ (ls : List ScriptLine). ls ++ more) (sym adds.joined))
       (before.on (adds.added ++ more)
-        (subst (λ (texts : List (List ℕ)). AllZip IsLine (filter has_bytes (enumerate_from number texts)) (adds.added ++ more)) (sym cut)
-          (joined number line (enumerate_from (number + 1) (lines after)) adds.added more adds.is_line are)));
-  count = count
+      (subst (λ (texts : List (List ℕ)). AllZip IsLine (filter has_bytes (enumerate_from number texts)) (adds.added ++ more)) (sym cut)
+      (joined number line (enumerate_from (number + 1) (lines after)) adds.added more adds.is_line are)));
+  count = count;
 }
 
 no_bytes : (bs : List ℕ) → (length bs == 0) ≡ true → bs ≡ []
@@ -39,7 +39,7 @@ no_bytes (b ∷ bs) e = let z : length (b ∷ bs) ≡ 0 = eqb-true (length (b �
 pub goes_done : (bytes left : List ℕ) (read : List ScriptLine) (number : ℕ) → (length left == 0) ≡ true → Goes bytes read number left → AreLines bytes read
 goes_done bytes left read number done before =
     subst (λ (ls : List ScriptLine). AllZip IsLine (numbered 1 bytes) ls) (append-nil read)
-      (before.on [] (subst (λ (bs : List ℕ). AllZip IsLine (numbered number bs) []) (sym (no_bytes left done)) tt))
+    (before.on [] (subst (λ (bs : List ℕ). AllZip IsLine (numbered number bs) []) (sym (no_bytes left done)) tt))
 
 -- a line without bytes is left out
 pub appends_none : (number : ℕ) (bytes : List ℕ) (old : List ScriptLine) → (length bytes == 0) ≡ true → Appends (number, bytes) old old

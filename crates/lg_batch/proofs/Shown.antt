@@ -28,15 +28,15 @@ moved read p (Some ps) = ap Some (sym (append_assoc read (p ∷ []) ps))
 pub shown_more : (all : List Tree) (read : List Posting) (t : Tree) (left : List Tree) (p : Posting) → Shown all read (t ∷ left) → Shows t p → Shown all (read ++ p ∷ []) left
 shown_more all read t left p before here = record {
   joined = before.joined
-    ∙ ap (λ (o : Option Posting). option_map (λ ps. read ++ ps) (before_all o (postings_of (trees left)))) here.is_posting
-    ∙ moved read p (postings_of (trees left));
-  in_grammar = All-push IsInGrammar read p before.in_grammar here.in_grammar
+      ∙ ap (λ (o : Option Posting). option_map (λ ps. read ++ ps) (before_all o (postings_of (trees left)))) here.is_posting
+      ∙ moved read p (postings_of (trees left));
+  in_grammar = All-push IsInGrammar read p before.in_grammar here.in_grammar;
 }
 
 pub shown_all : (all : List Tree) (read : List Posting) → Shown all read [] → ShowAll (trees all) read
 shown_all all read before = record {
   are_postings = before.joined ∙ ap Some (append-nil read);
-  in_grammar = before.in_grammar
+  in_grammar = before.in_grammar;
 }
 
 -- the second part of what is in the grammar
@@ -51,7 +51,7 @@ stuck read t (Some p) (Some qs) ps is e all never =
     let same_list : read ++ p ∷ qs ≡ ps = cc in
     never p (record {
       is_posting = is;
-      in_grammar = All-head IsInGrammar p qs (of_back read (p ∷ qs) (subst (λ (xs : List Posting). All IsInGrammar xs) (sym same_list) all))
+      in_grammar = All-head IsInGrammar p qs (of_back read (p ∷ qs) (subst (λ (xs : List Posting). All IsInGrammar xs) (sym same_list) all));
     })
 
 -- one value that shows no posting

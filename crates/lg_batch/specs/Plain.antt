@@ -51,5 +51,5 @@ unsealed_entry id date postings timestamp = record { id = id; date = date; mark 
 abbrev pub entry_after : ℕ → Option Entry → List Posting → Option ℤ → ℤ → Entry
 entry_after count last postings timestamp now =
     record (unsealed_entry (count + 1) (date_after last now) postings timestamp) {
-      hash = line_hash Chained (option_map entry_hash last) (unsealed_entry (count + 1) (date_after last now) postings timestamp)
+      hash = line_hash Chained (option_map entry_hash last) (unsealed_entry (count + 1) (date_after last now) postings timestamp);
     }

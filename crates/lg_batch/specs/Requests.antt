@@ -115,8 +115,8 @@ abbrev pub is_creation : Members → Bool
 is_creation ms =
     if has_only line_names ms
     then if is_text (codes "POST") (text_under (codes "method") ms)
-      then is_text (codes "/v2/default/transactions") (text_under (codes "path") ms)
-      else false
+    then is_text (codes "/v2/default/transactions") (text_under (codes "path") ms)
+    else false
     else false
 
 abbrev pub members_of : Tree → Option Members

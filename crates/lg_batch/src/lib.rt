@@ -6,6 +6,8 @@ mod new_entry;
 mod plain;
 mod requests;
 mod script;
+#[cfg(test)]
+mod script_tests;
 mod stage;
 mod taken;
 mod text_lines;

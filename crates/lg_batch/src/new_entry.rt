@@ -7,10 +7,11 @@ ghost use Rattle.lg_types.specs.Chain.{entry_hash};
 ghost use Rattle.lg_types.specs.Known.{date_after};
 ghost use Rattle.lg_batch.specs.Plain.{entry_after};
 
-use std::alloc::Global;
-
 use lg_chain::seal;
-use lg_types::{AccountMeta, Duplicate, Entry, EntryBody, Meta, NoMemory, Postings, Transaction, bring};
+use lg_types::{
+    AccountMeta, Duplicate, Entry, EntryBody, Meta, NoMemory, Postings, Transaction, bring,
+};
+use std::alloc::Global;
 
 /// The entry of a creation with these postings after a log of so many entries: the next ids, the date brought to the
 /// last entry's, and the chain's hash.
@@ -27,20 +28,43 @@ pub fn created(
 {
     let id = count + 1;
     let date = next_date(last, now);
-    let entry = unsealed(id, &date, transaction(alloc, id, postings, timestamp, &date)?, AccountMeta::new(alloc));
+    let entry = unsealed(
+        id,
+        &date,
+        transaction(alloc, id, postings, timestamp, &date)?,
+        AccountMeta::new(alloc),
+    );
     let hash = seal(last_hash(last), &entry);
     Ok(sealed(entry, hash))
 }
 
 /// A transaction without metadata and reference; its timestamp is the date where none is given.
-fn transaction(alloc: Global, id: u64, postings: &Postings, timestamp: &Option<i64>, date: &i64) -> Result<Transaction, NoMemory>
+fn transaction(
+    alloc: Global,
+    id: u64,
+    postings: &Postings,
+    timestamp: &Option<i64>,
+    date: &i64,
+) -> Result<Transaction, NoMemory>
     ensures { IfOk result (λ t. t ≡ record { id = id; postings = postings.now; metadata = empty; reference = None; timestamp = unwrap_or timestamp.now date.now }) }
 {
     let postings = postings.copy(alloc)?;
     let metadata = Meta::new(alloc);
     match timestamp {
-        Some(given) => Ok(Transaction { id, postings, metadata, reference: None, timestamp: *given }),
-        None => Ok(Transaction { id, postings, metadata, reference: None, timestamp: *date }),
+        Some(given) => Ok(Transaction {
+            id,
+            postings,
+            metadata,
+            reference: None,
+            timestamp: *given,
+        }),
+        None => Ok(Transaction {
+            id,
+            postings,
+            metadata,
+            reference: None,
+            timestamp: *date,
+        }),
     }
 }
 
@@ -51,7 +75,10 @@ fn unsealed(id: u64, date: &i64, transaction: Transaction, accounts: AccountMeta
         id,
         date: *date,
         mark: None,
-        body: EntryBody::NewTransaction { transaction, accounts },
+        body: EntryBody::NewTransaction {
+            transaction,
+            accounts,
+        },
         hash: [0; 32],
     }
 }
@@ -60,8 +87,20 @@ fn unsealed(id: u64, date: &i64, transaction: Transaction, accounts: AccountMeta
 fn sealed(entry: Entry, hash: [u8; 32]) -> Entry
     ensures { result ≡ record entry { hash = hash } }
 {
-    let Entry { id, date, mark, body, hash: _ } = entry;
-    Entry { id, date, mark, body, hash }
+    let Entry {
+        id,
+        date,
+        mark,
+        body,
+        hash: _,
+    } = entry;
+    Entry {
+        id,
+        date,
+        mark,
+        body,
+        hash,
+    }
 }
 
 /// The moment brought into the range of moments, and never before the last entry's date.

@@ -8,15 +8,16 @@ ghost use Rattle.lg_batch.specs.Totals.{the_ledger};
 ghost use Rattle.lg_batch.specs.Plain.{IsPlain, creation};
 ghost use Rattle.lg_batch.specs.Running.{Takes};
 
-use std::alloc::Global;
-use std::marker::Model;
-
-use lg_types::{Bucket, Call, Duplicate, Entry, Event, LedgerInfo, LedgerName, Meta, NameFault, NoMemory, Postings, Refusal, Write};
-
 use crate::ledger::Ledger;
 use crate::new_entry::created;
 use crate::taken::Taken;
 use crate::trial::try_postings;
+use lg_types::{
+    Bucket, Call, Duplicate, Entry, Event, LedgerInfo, LedgerName, Meta, NameFault, NoMemory,
+    Postings, Refusal, Write,
+};
+use std::alloc::Global;
+use std::marker::Model;
 
 /// The ledger `default`, seen as the list of all events.
 #[derive(Drop)]
@@ -89,7 +90,14 @@ fn append_creation(
         return Ok(Taken::Refused(refusal));
     }
     let count = events.len() as u64 - 1;
-    let entry = created(alloc, count, last_entry(events.as_slice()), postings, timestamp, now)?;
+    let entry = created(
+        alloc,
+        count,
+        last_entry(events.as_slice()),
+        postings,
+        timestamp,
+        now,
+    )?;
     let ledger = ledger_name(alloc)?;
     events.push(Event::Logged { ledger, entry })?;
     Ok(Taken::Appended)
@@ -132,7 +140,14 @@ impl Ledger for Plain {
     fn call(&mut self, call: &Call, now: i64) -> Taken {
         match call {
             Call::Unreadable(refusal) => refused(self.alloc, refusal),
-            Call::Write { write: Write::Create { postings, timestamp, .. }, .. } => self.create(postings, timestamp, &now),
+            Call::Write {
+                write: Write::Create {
+                    postings,
+                    timestamp,
+                    ..
+                },
+                ..
+            } => self.create(postings, timestamp, &now),
             _ => unreachable!(),
         }
     }

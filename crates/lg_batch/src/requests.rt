@@ -82,7 +82,11 @@ fn text_of(value: &Json) -> Option<&Text>
 fn from_zero(number: i128) -> Option<u128>
     ensures { result ≡ spec.from_zero number }
 {
-    if number < 0 { None } else { Some(number as u128) }
+    if number < 0 {
+        None
+    } else {
+        Some(number as u128)
+    }
 }
 
 fn number_of(value: &Json) -> Option<u128>

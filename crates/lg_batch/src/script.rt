@@ -1,9 +1,10 @@
 //! Scripts.
 
-ghost use Rattle.std.specs.Prelude.{◌≡◌, length, IfOk, slice_get};
+ghost use Rattle.std.specs.Prelude.{◌≡◌, length, All, IfOk, slice_get};
 ghost use Rattle.std.specs.Option.{option_copied};
 ghost use Rattle.lg_batch.specs.Lines.{AreLines};
 ghost use Rattle.lg_batch.specs.Reads.{Appends};
+ghost use Rattle.lg_batch.specs.Running.{IsBuilt};
 
 use crate::stage::read_line;
 use crate::text_lines::cut_line;
@@ -19,22 +20,26 @@ pub struct Script {
 }
 
 impl Model for Script {
-    ghost use Rattle.std.specs.Prelude.{List};
+    ghost use Rattle.std.specs.Prelude.{List, All};
     ghost use Rattle.std.specs.Coded.{coded_list};
     ghost use Rattle.lg_views.specs.contracts.lines.ScriptLine as line;
     ghost use Rattle.lg_views.specs.declared.lines.ScriptLine.{ScriptLine};
+    ghost use Rattle.lg_batch.specs.Running.{IsBuilt};
 
     ghost Value = { List ScriptLine };
 
     ghost coded = { coded_list line.the_row.coded };
 
     ghost view = { λ s. s.lines.items };
+
+    ghost invariant = { λ s. All (λ l. IsBuilt l.call) s.lines.items };
 }
 
 impl Script {
     /// The lines.
     pub fn as_slice(&self) -> &[ScriptLine]
-        ensures { result.now ≡ self.now }
+        ensures value { result.now ≡ self.now }
+        ensures built { All (λ l. IsBuilt l.call) result.now }
     {
         self.lines.as_slice()
     }
@@ -59,8 +64,10 @@ impl Script {
 pub fn read_script(alloc: Global, bytes: &[u8]) -> Result<Script, NoMemory>
     ensures { IfOk result (λ s. AreLines bytes.now s) }
 {
-    let lines = read_lines(alloc, bytes)?;
-    Ok(Script { lines })
+    match read_lines(alloc, bytes) {
+        Ok(lines) => Ok(Script { lines }),
+        Err(_) => Err(NoMemory),
+    }
 }
 
 fn read_lines(alloc: Global, bytes: &[u8]) -> Result<Vec<ScriptLine>, NoMemory>

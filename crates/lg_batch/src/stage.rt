@@ -12,7 +12,7 @@ ghost use Rattle.lg_batch.specs.Reads.{asked_view, IsNameOf, IsPostingOf};
 use crate::requests::{PostingParts, RequestParts, posting_parts, request_parts};
 use lg_base::{Amount, NoMemory};
 use lg_containers::{
-    AddressGrammar, AssetGrammar, Grammar, LedgerName, Meta, AccountMeta, Name, NameFault,
+    AccountMeta, AddressGrammar, AssetGrammar, Grammar, LedgerName, Meta, Name, NameFault,
 };
 use lg_json::{Json, JsonFault};
 use lg_time::read_moment;
@@ -179,11 +179,13 @@ pub fn read_line(alloc: Global, line: u64, bytes: &[u8]) -> Result<ScriptLine, N
     ensures { IfOk result (IsLine (line, bytes.now)) }
 {
     let (moment, call) = match read_asked(alloc, bytes)? {
-        Some(Creation {
-            moment,
-            timestamp,
-            postings,
-        }) => (moment, creation_call(alloc, postings, timestamp)?),
+        Some(
+            Creation {
+                moment,
+                timestamp,
+                postings,
+            },
+        ) => (moment, creation_call(alloc, postings, timestamp)?),
         None => (0, Call::Unreadable(Refusal::NotBuilt)),
     };
     Ok(ScriptLine {

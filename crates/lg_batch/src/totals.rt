@@ -25,7 +25,10 @@ fn add_events(events: &[Event], account: &[u8], asset: &[u8]) -> Volumes
     ensures input { result.input ≡ sum_by (event_in account.now asset.now) events.now }
     ensures output { result.output ≡ sum_by (event_out account.now asset.now) events.now }
 {
-    let mut sum = Volumes { input: 0, output: 0 };
+    let mut sum = Volumes {
+        input: 0,
+        output: 0,
+    };
     for event in events {
         sum = add_postings(sum, postings_of_event(event), account, asset);
     }
@@ -78,11 +81,19 @@ fn add_postings(start: Volumes, postings: &[Posting], account: &[u8], asset: &[u
 fn amount_in(posting: &Posting, account: &[u8], asset: &[u8]) -> u128
     ensures { result ≡ posting_in account.now asset.now posting.now }
 {
-    if posting.destination.bytes() == account && posting.asset.bytes() == asset { posting.amount.value() } else { 0 }
+    if posting.destination.bytes() == account && posting.asset.bytes() == asset {
+        posting.amount.value()
+    } else {
+        0
+    }
 }
 
 fn amount_out(posting: &Posting, account: &[u8], asset: &[u8]) -> u128
     ensures { result ≡ posting_out account.now asset.now posting.now }
 {
-    if posting.source.bytes() == account && posting.asset.bytes() == asset { posting.amount.value() } else { 0 }
+    if posting.source.bytes() == account && posting.asset.bytes() == asset {
+        posting.amount.value()
+    } else {
+        0
+    }
 }

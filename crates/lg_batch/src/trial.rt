@@ -9,17 +9,19 @@ ghost use Rattle.lg_types.specs.Trial.{tried_moves, trial};
 ghost use Rattle.lg_batch.specs.Totals.{the_ledger, AreWithin};
 ghost use Rattle.lg_batch.specs.Tried.{tried, lacks_of, passes_of};
 
-use std::alloc::Global;
-
-use lg_types::{Duplicate, Event, NoMemory, Posting, Refusal, Volumes};
-
 use crate::totals::lent_total;
+use lg_types::{Duplicate, Event, NoMemory, Posting, Refusal, Volumes};
+use std::alloc::Global;
 
 /// The greatest input or output.
 const LIMIT: u128 = 170141183460469231731687303715884105727;
 
 /// The first posting that lacks funds or passes the limit after the log, and none where all can be booked.
-pub fn try_postings(alloc: Global, events: &[Event], postings: &[Posting]) -> Result<Option<Refusal>, NoMemory>
+pub fn try_postings(
+    alloc: Global,
+    events: &[Event],
+    postings: &[Posting],
+) -> Result<Option<Refusal>, NoMemory>
     requires { AreWithin (moves (log events.now the_ledger)) }
     ensures value { IfOk result (λ r. r ≡ trial (log events.now the_ledger) postings.now false) }
     ensures within { IfOk result (λ r. r ≡ None → AreWithin (moves (log events.now the_ledger) ++ flat_map tried_moves postings.now)) }
@@ -44,13 +46,25 @@ fn try_posting(
     requires { AreWithin (moves (log events.now the_ledger) ++ flat_map tried_moves before.now) }
     ensures { IfOk result (λ r. r ≡ tried (moves (log events.now the_ledger) ++ flat_map tried_moves before.now) place posting.now) }
 {
-    let source = lent_total(events, before, posting.source.bytes(), posting.asset.bytes());
+    let source = lent_total(
+        events,
+        before,
+        posting.source.bytes(),
+        posting.asset.bytes(),
+    );
     if is_lacking(&source, posting) {
         return Ok(Some(lack(alloc, place, posting, source.balance())?));
     }
-    let destination = lent_total(events, before, posting.destination.bytes(), posting.asset.bytes());
+    let destination = lent_total(
+        events,
+        before,
+        posting.destination.bytes(),
+        posting.asset.bytes(),
+    );
     if is_past(source.output, posting) || is_past(destination.input, posting) {
-        return Ok(Some(Refusal::Limit { posting: place as u64 }));
+        return Ok(Some(Refusal::Limit {
+            posting: place as u64,
+        }));
     }
     Ok(None)
 }
@@ -60,7 +74,9 @@ fn is_lacking(source: &Volumes, posting: &Posting) -> bool
     requires { IsWithinLimit source.now }
     ensures { result ≡ lacks_of source.now posting.now }
 {
-    posting.source.bytes() != b"world".as_slice() && 0 < posting.amount.value() && source.balance() < posting.amount.value() as i128
+    posting.source.bytes() != b"world".as_slice()
+        && 0 < posting.amount.value()
+        && source.balance() < posting.amount.value() as i128
 }
 
 /// Whether a volume passes the limit with the posting.

@@ -8,4 +8,4 @@ returns-then-is_empty c = appends_none c.args.number c.args.bytes.now c.args.lin
 pub returns : goal.returns
 returns c =
     appends_one c.args.number c.args.bytes.now c.args.lines.items c.push.new.self.items c.in_ok-read_line.field-0
-      (sym c.is_empty.ensures ∙ c.if-is_empty.false) c.in_ok-read_line.ensures c.in_ok-push.ensures.items
+    (sym c.is_empty.ensures ∙ c.if-is_empty.false) c.in_ok-read_line.ensures c.in_ok-push.ensures.items

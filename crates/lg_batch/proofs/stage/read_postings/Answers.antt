@@ -11,8 +11,8 @@ returns-in-None c =
     let i = c.loop-value.value-index in
     let values = c.args.values.now in
     shown_stuck (map tree values) c.loop-value.postings.items (tree v) (map tree (drop (i + 1) values))
-      (subst (λ (ts : List Tree). Shown (map tree values) c.loop-value.postings.items ts) (left_at values i v c.loop-value-test.true c.value-item.is) c.loop-value.invariant)
-      (subst (λ (o : Option Posting). IsFound (Shows (tree v)) o) c.in-None.is c.in_ok-posting.ensures)
+    (subst (λ (ts : List Tree). Shown (map tree values) c.loop-value.postings.items ts) (left_at values i v c.loop-value-test.true c.value-item.is) c.loop-value.invariant)
+    (subst (λ (o : Option Posting). IsFound (Shows (tree v)) o) c.in-None.is c.in_ok-posting.ensures)
 
 pub loop-value-preserved : goal.loop-value-preserved
 loop-value-preserved c =
@@ -20,6 +20,6 @@ loop-value-preserved c =
     let i = c.loop-value.value-index in
     let values = c.args.values.now in
     subst (λ (ps : List Posting). Shown (map tree values) ps (map tree (drop (i + 1) values))) (sym c.in_ok-push-in-Some.ensures.items)
-      (shown_more (map tree values) c.loop-value.postings.items (tree v) (map tree (drop (i + 1) values)) c.in-Some.posting
-        (subst (λ (ts : List Tree). Shown (map tree values) c.loop-value.postings.items ts) (left_at values i v c.loop-value-test.true c.value-item.is) c.loop-value.invariant)
-        (subst (λ (o : Option Posting). IsFound (Shows (tree v)) o) c.in-Some.is c.in_ok-posting.ensures))
+    (shown_more (map tree values) c.loop-value.postings.items (tree v) (map tree (drop (i + 1) values)) c.in-Some.posting
+    (subst (λ (ts : List Tree). Shown (map tree values) c.loop-value.postings.items ts) (left_at values i v c.loop-value-test.true c.value-item.is) c.loop-value.invariant)
+    (subst (λ (o : Option Posting). IsFound (Shows (tree v)) o) c.in-Some.is c.in_ok-posting.ensures))
