@@ -4,6 +4,16 @@
 mod ledger;
 mod new_entry;
 mod plain;
+mod requests;
+mod script;
+#[cfg(test)]
+mod script_tests;
+mod stage;
 mod taken;
+mod text_lines;
 mod totals;
 mod trial;
+
+pub use lg_base::NoMemory;
+pub use lg_views::ScriptLine;
+pub use script::{Script, read_script};
