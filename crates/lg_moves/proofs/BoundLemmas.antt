@@ -26,3 +26,33 @@ near_by_rank (EffectiveTo date) low high r i n = grind (arith, ints, nat_tests)
 near_by_rank (EffectiveBefore date) low high r i n = grind (arith, ints, nat_tests)
 near_by_rank (RankTo date id) low high r i n = grind (arith, ints, nat_tests)
 near_by_rank (RankBefore date id) low high r i n = grind (arith, ints, nat_tests)
+
+-- a key before another in the order of ranks
+pub near_from_before : (b : Bound) (low high : Key) → is_by_rank b ≡ true → is_near (RankBefore high.date high.id) low ≡ true → is_near b high ≡ true → is_near b low ≡ true
+near_from_before (InsertedTo date) low high r i n = absurd (cc)
+near_from_before (InsertedBefore date) low high r i n = absurd (cc)
+near_from_before (TransactionTo id) low high r i n = absurd (cc)
+near_from_before (EffectiveTo date) low high r i n = grind (arith, ints, nat_tests)
+near_from_before (EffectiveBefore date) low high r i n = grind (arith, ints, nat_tests)
+near_from_before (RankTo date id) low high r i n = grind (arith, ints, nat_tests)
+near_from_before (RankBefore date id) low high r i n = grind (arith, ints, nat_tests)
+
+-- a key not after another
+pub near_from_to : (b : Bound) (low high : Key) → is_by_rank b ≡ true → is_near (RankTo high.date high.id) low ≡ true → is_near b high ≡ true → is_near b low ≡ true
+near_from_to (InsertedTo date) low high r i n = absurd (cc)
+near_from_to (InsertedBefore date) low high r i n = absurd (cc)
+near_from_to (TransactionTo id) low high r i n = absurd (cc)
+near_from_to (EffectiveTo date) low high r i n = grind (arith, ints, nat_tests)
+near_from_to (EffectiveBefore date) low high r i n = grind (arith, ints, nat_tests)
+near_from_to (RankTo date id) low high r i n = grind (arith, ints, nat_tests)
+near_from_to (RankBefore date id) low high r i n = grind (arith, ints, nat_tests)
+
+-- a key after another
+pub near_from_far : (b : Bound) (low high : Key) → is_by_rank b ≡ true → is_near (RankTo low.date low.id) high ≡ false → is_near b high ≡ true → is_near b low ≡ true
+near_from_far (InsertedTo date) low high r i n = absurd (cc)
+near_from_far (InsertedBefore date) low high r i n = absurd (cc)
+near_from_far (TransactionTo id) low high r i n = absurd (cc)
+near_from_far (EffectiveTo date) low high r i n = grind (arith, ints, nat_tests)
+near_from_far (EffectiveBefore date) low high r i n = grind (arith, ints, nat_tests)
+near_from_far (RankTo date id) low high r i n = grind (arith, ints, nat_tests)
+near_from_far (RankBefore date id) low high r i n = grind (arith, ints, nat_tests)

@@ -1,7 +1,7 @@
 -- What an index keeps when a move is applied, and what its parts say of a reading.
-use Rattle.std.proofs.Common.{◌≡◌, ℕ, ◌+◌, ◌^◌, ◌<◌, ◌≤◌, Bool, true, false, ◌&&◌, cond, List, [], ◌∷◌, ◌++◌, map, length, refl, arith, sym, inl, inr, ◌∙◌}
+use Rattle.std.proofs.Common.{◌≡◌, ℕ, ◌+◌, ◌*◌, ◌/◌, ◌^◌, ◌<◌, ◌≤◌, Bool, true, false, ◌&&◌, cond, List, [], ◌∷◌, ◌++◌, map, length, refl, ap, arith, sym, inl, inr, ◌∙◌}
 use Rattle.std.specs.List.{sum_by}
-use Rattle.std.proofs.lemmas.List.{map_push}
+use Rattle.std.proofs.lemmas.List.{map_push, length-map, length_push}
 use Rattle.std.proofs.lemmas.List.Folds.{fold-map}
 use Rattle.std.proofs.lemmas.List.Sums.{sum_by_push}
 use Rattle.lg_base.specs.Volumes.{IsWithinLimit}
@@ -94,3 +94,38 @@ reading b line late s r w h ranked other =
       | inl t ↦ reading_ranked b line late r t w (ranked t (λ part. sum_by (hit_part b part) line.items) h)
       | inr f ↦ rw (other f) (reading_inserted b line.items s f h)
     ]
+
+-- no more moves are late than there are
+pub late_few : (line : Kept Entry) (late : Kept Move) → IsDivided line late → length late.items ≤ length (map move_of line.items)
+late_few line late w =
+    let n : sum_by (λ (_ : Move). 1) late.items ≡ length late.items = sum_by_ones late.items in
+    let k : sum_by (every_part (λ _. 1)) line.items ≡ length line.items = sum_by_ones line.items in
+    omega (arith, w.sums (λ _. 1), n, k, length-map line.items move_of)
+
+-- steps of a reading: of the line, and of the late moves
+pub reading_cost : (line : Kept Entry) (late : Kept Move) (now mid next : ℕ) → IsDivided line late → ((b : ℕ) → length line.items + 1 ≤ 2 ^ b → mid ≤ now + (b + 17)) → ((b : ℕ) → length late.items + 1 ≤ 2 ^ b → next ≤ mid + (2 * b + 41)) →
+    (b : ℕ) → length (map move_of line.items) + 1 ≤ 2 ^ b → next ≤ now + (3 * b + 58)
+reading_cost line late now mid next w c d b le =
+    let f = late_few line late w in
+    let l = length-map line.items move_of in
+    let p = c b (omega arith) in
+    let q = d b (omega arith) in
+    omega arith
+
+-- steps of an application
+pub apply_cost : (line : Kept Entry) (late : Kept Move) (now mid next : ℕ) → IsDivided line late → mid ≤ now + 2 → ((b : ℕ) → length late.items + 1 ≤ 2 ^ b → next ≤ mid + (12 * b + 14)) →
+    (b : ℕ) → length (map move_of line.items) + 1 ≤ 2 ^ b → next ≤ now + (12 * b + 16)
+apply_cost line late now mid next w c d b le =
+    let f = late_few line late w in
+    let q = d b (omega arith) in
+    omega arith
+
+-- they stay below a fixed number, since the number of moves has 64 binary digits at most
+pub apply_bound : (line new : Kept Entry) (m : Move) (timely : Bool) (now next : ℕ) → new.items ≡ line.items ++ entry_of m timely ∷ [] → IsBounded (λ part. sum_by (every_part part) new.items) →
+    ((b : ℕ) → length (map move_of line.items) + 1 ≤ 2 ^ b → next ≤ now + (12 * b + 16)) → next ≤ now + (length (map move_of line.items) / 32 + 1024)
+apply_bound line new m timely now next is bound c =
+    let k : sum_by (every_part (λ _. 1)) new.items ≡ length new.items = sum_by_ones new.items in
+    let n : length new.items ≡ length line.items + 1 = ap length is ∙ length_push line.items (entry_of m timely) in
+    let l = length-map line.items move_of in
+    let q = c 64 (omega (arith, bound.count)) in
+    omega arith

@@ -15,7 +15,7 @@ use Rattle.lg_moves.specs.declared.bounds.Key.{Key}
 use Rattle.lg_moves.specs.declared.bounds.Bound.{Bound}
 use Rattle.lg_moves.specs.declared.bounds.Bound.TheVariants.{InsertedTo, InsertedBefore, EffectiveTo, EffectiveBefore, TransactionTo, RankTo, RankBefore}
 use Rattle.lg_runs.specs.Runs.{Kept}
-use Rattle.lg_moves.specs.Moves.{amount_in, amount_out, ComesNext}
+use Rattle.lg_moves.specs.Moves.{amount_in, amount_out, ComesNext, IsLastInRank, is_ranked_before}
 use Rattle.lg_moves.specs.Sums.{AreSums, IsBounded}
 use Rattle.lg_moves.specs.Bounds.{is_near, is_by_rank, key_of, passes}
 use Rattle.lg_moves.specs.Entries.{move_of, entry_of, counts, hits, every_part, timely_part, counted_part, hit_part}
@@ -160,6 +160,20 @@ last_push entries end m timely d =
     get_or_push entries (entry_of m timely) d (length (entries ++ entry_of m timely ∷ []) - 1) (omega (arith, length_push entries (entry_of m timely))) in
     rw e (elim timely as (λ t. (m.transaction ≡ (mark_after end m t).key.transaction) × (m.inserted ≡ (mark_after end m t).key.inserted)) [ true ↦ (refl, refl) | false ↦ (refl, refl) ])
 
+-- the entry of the greatest rank after one more
+reached_push : (entries : List Entry) (marks : List Mark) (end : Mark) (m : Move) (timely : Bool) (d : Entry) → IsMarked entries marks end → Follows entries end m timely →
+    (k : ℕ) × (k < length (entries ++ entry_of m timely ∷ [])) × ((get_or (entries ++ entry_of m timely ∷ []) k d).effective ≡ (mark_after end m timely).key.date)
+    × ((get_or (entries ++ entry_of m timely ∷ []) k d).transaction ≡ (mark_after end m timely).key.id)
+reached_push entries marks end m true d w f =
+    let e : get_or (entries ++ entry_of m true ∷ []) (length entries) d ≡ entry_of m true = get_or_push entries (entry_of m true) d (length entries) refl in
+    (length entries, omega (arith, length_push entries (entry_of m true)), rw e refl, rw e refl)
+reached_push entries marks end m false d w f =
+    let some : 0 < length entries = elim (cases_eq (length entries) 0) [ inl z ↦ absurd (false≢true (f.first z)) | inr ne ↦ omega arith ] in
+    let old = w.reached d some in
+    let at : old.0 < length entries = old.1 in
+    let e : get_or (entries ++ entry_of m false ∷ []) old.0 d ≡ get_or entries old.0 d = get_or_append_left entries (entry_of m false ∷ []) d old.0 at in
+    (old.0, omega (arith, length_push entries (entry_of m false)), rw e old.2, rw e old.3)
+
 bounded_push : (entries : List Entry) (m : Move) (timely : Bool) → IsBounded (λ part. sum_by (every_part part) entries + part m) → IsBounded (λ part. sum_by (every_part part) (entries ++ entry_of m timely ∷ []))
 bounded_push entries m timely h = record {
   input = omega (arith, h.input, sum_by_push (every_part amount_in) entries (entry_of m timely));
@@ -180,6 +194,7 @@ marked_push entries marks end m timely w f b n =
       few = omega (arith, w.few);
       enough = omega (arith, w.enough, w.few, n);
       last = λ d some. last_push entries end m timely d;
+      reached = λ d some. reached_push entries marks end m timely d w f;
       bounded = bounded_push entries m timely b;
     }
 
@@ -218,6 +233,7 @@ marked_push_due entries marks end m timely w f b n =
       few = omega (arith, w.few);
       enough = omega (arith, w.enough);
       last = λ d some. last_push entries end m timely d;
+      reached = λ d some. reached_push entries marks end m timely d w f;
       bounded = bounded_push entries m timely b;
     }
 
@@ -425,3 +441,13 @@ hits_timely b part entries r =
     both : (x y : Bool) (n : ℕ) → cond (x && y) n 0 ≤ cond x n 0
     both true y n = cond_le y n
     both false y n = omega arith
+
+-- a move that comes last in the order of ranks isn't before the greatest rank
+pub last_in_rank : (entries : List Entry) (marks : List Mark) (end : Mark) (m : Move) → IsMarked entries marks end → 0 < length entries → IsLastInRank (map move_of entries) m → is_near (RankBefore end.key.date end.key.id) (key_of m) ≡ false
+last_in_rank entries marks end m w some h =
+    let r = w.reached (entry_of m true) some in
+    let lt : r.0 < length (map move_of entries) = omega (arith, r.1, length-map entries move_of) in
+    let e : get_or (map move_of entries) r.0 m ≡ move_of (get_or entries r.0 (entry_of m true)) = get_or-map move_of entries r.0 (entry_of m true) m r.1 in
+    let k : is_ranked_before (get_or entries r.0 (entry_of m true)).effective (get_or entries r.0 (entry_of m true)).transaction m ≡ false =
+    subst (λ (x : Move). is_ranked_before x.effective x.transaction m ≡ false) e (h r.0 m lt) in
+    rw (r.2, r.3) at k

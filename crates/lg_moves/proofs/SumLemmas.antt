@@ -121,3 +121,24 @@ pub passing_more : (test : Move → Bool) (ms : List Move) (i : ℕ) (s : Sums) 
     AreSums s (λ part. sum_by (if_passing test part) (take i ms) + if_passing test part m) → AreSums s (λ part. sum_by (if_passing test part) (take (i + 1) ms))
 passing_more test ms i s m lt is h =
     same_total h (λ part. subst (λ (z : Move). sum_by (if_passing test part) (take i ms) + if_passing test part z ≡ sum_by (if_passing test part) (take (i + 1) ms)) (sym (is m)) (sym (sum_by_more (if_passing test part) ms i m lt)))
+
+-- two sums together are those of both totals
+pub plus_sums : {s u : Sums} {t v : (Move → ℕ) → ℕ} → AreSums s t → AreSums u v → (r : Sums) → r ≡ record { input = s.input + u.input; output = s.output + u.output; count = s.count + u.count } → AreSums r (λ part. t part + v part)
+plus_sums {s} {u} {t} {v} a b r is = rw is (record {
+  input = omega (arith, a.input, b.input);
+  output = omega (arith, a.output, b.output);
+  count = omega (arith, a.count, b.count);
+})
+
+-- they fit where both totals are within a bounded one
+pub record FitTogether (s u : Sums) : Type 0 where
+  pub input : s.input + u.input < 2 ^ 128
+  pub output : s.output + u.output < 2 ^ 128
+  pub count : s.count + u.count < 2 ^ 64
+
+pub fit_together : {s u : Sums} {t v w : (Move → ℕ) → ℕ} → AreSums s t → AreSums u v → IsBounded w → ((part : Move → ℕ) → t part + v part ≤ w part) → FitTogether s u
+fit_together a b h le = record {
+  input = omega (arith, a.input, b.input, h.input, le amount_in);
+  output = omega (arith, a.output, b.output, h.output, le amount_out);
+  count = omega (arith, a.count, b.count, h.count, le (λ _. 1));
+}

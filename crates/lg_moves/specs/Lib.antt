@@ -4,3 +4,7 @@ pub mod Sums
 pub mod Entries
 pub mod Line
 pub mod Index
+pub mod Ranks
+pub mod Seen
+pub mod Tree
+pub mod Late

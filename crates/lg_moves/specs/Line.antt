@@ -45,6 +45,8 @@ pub record IsMarked (entries : List Entry) (marks : List Mark) (end : Mark) : Ty
   pub few : length marks * 16 ≤ length entries
   pub enough : length entries < length marks * 16 + 16
   pub last : (d : Entry) → 0 < length entries → ((slice_index_or entries (length entries - 1) d).transaction ≡ end.key.transaction) × ((slice_index_or entries (length entries - 1) d).inserted ≡ end.key.inserted)
+  -- the greatest rank is that of an entry
+  pub reached : (d : Entry) → 0 < length entries → (k : ℕ) × (k < length entries) × ((slice_index_or entries k d).effective ≡ end.key.date) × ((slice_index_or entries k d).transaction ≡ end.key.id)
   pub bounded : IsBounded (λ part. sum_by (every_part part) entries)
 
 -- a line with its spare room: as many marks as all places need

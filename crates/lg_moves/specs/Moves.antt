@@ -1,7 +1,7 @@
 -- The moves of one account and one asset, and what they add up to.
-use Rattle.std.specs.Prelude.{ℕ, ◌-◌, ◌<◌, ◌≤◌, Bool, true, ◌&&◌, ◌||◌, if◌then◌else◌, ℤ, int_le, int_lt, nat_le, nat_lt, ◌≤ℤ◌, List, length, slice_index_or, Option, Some, None}
+use Rattle.std.specs.Prelude.{◌≡◌, ℕ, ◌-◌, ◌<◌, ◌≤◌, Bool, true, false, ◌&&◌, ◌||◌, if◌then◌else◌, ℤ, int_le, int_lt, nat_le, nat_lt, ◌≤ℤ◌, List, length, slice_index_or, Option, Some, None}
 use Rattle.std.specs.Ordering.{int_eq}
-use Rattle.std.specs.List.{sum_by}
+use Rattle.std.specs.List.{sum_by, All}
 use Rattle.lg_base.specs.declared.amounts.Volumes.{Volumes}
 use Rattle.lg_moves.specs.declared.moves.Move.{Move}
 
@@ -65,3 +65,7 @@ is_between from to by_insertion m = is_to to (date_of by_insertion m) && is_from
 pub record ComesNext (moves : List Move) (m : Move) : Type 0 where
   pub transaction : (d : Move) → 0 < length moves → (slice_index_or moves (length moves - 1) d).transaction ≤ m.transaction
   pub inserted : (d : Move) → 0 < length moves → (slice_index_or moves (length moves - 1) d).inserted ≤ℤ m.inserted
+
+-- the move comes last in the order of ranks too: it is before none of the moves
+abbrev pub IsLastInRank : List Move → Move → Type 0
+IsLastInRank moves m = All (λ x. is_ranked_before x.effective x.transaction m ≡ false) moves

@@ -100,3 +100,17 @@ impl Bound {
         }
     }
 }
+
+/// Whether the key's rank isn't after the other's.
+pub(crate) fn is_up_to(key: &Key, other: &Key) -> bool
+    ensures { result ≡ is_near (Bound.RankTo other.now.date other.now.id) key.now }
+{
+    key.date < other.date || (key.date == other.date && key.id <= other.id)
+}
+
+/// Whether the key's rank is before the other's.
+pub(crate) fn is_before(key: &Key, other: &Key) -> bool
+    ensures { result ≡ is_near (Bound.RankBefore other.now.date other.now.id) key.now }
+{
+    key.date < other.date || (key.date == other.date && key.id < other.id)
+}

@@ -1,9 +1,9 @@
 //! The index of the moves of one account and one asset.
 
-ghost use Rattle.std.specs.Prelude.{◌≡◌, ℕ, ◌+◌, ◌*◌, ◌^◌, ◌<◌, ◌≤◌, [], ◌∷◌, ◌++◌, length, true, false, ◌&&◌, ℤ, OnOk, if◌then◌else◌};
+ghost use Rattle.std.specs.Prelude.{◌≡◌, ℕ, ◌+◌, ◌*◌, ◌/◌, ◌^◌, ◌<◌, ◌≤◌, [], ◌∷◌, ◌++◌, length, true, false, ◌&&◌, ℤ, OnOk, if◌then◌else◌};
 ghost use Rattle.std.specs.List.{sum_by, list_any};
 ghost use Rattle.lg_base.specs.Volumes.{IsWithinLimit};
-ghost use Rattle.lg_moves.specs.Moves.{ComesNext, tally, total_of, if_passing, is_inserted_to, is_effective_to, is_of_transaction_to, is_ranked_to, is_ranked_before, is_from, is_to, date_of, is_between};
+ghost use Rattle.lg_moves.specs.Moves.{ComesNext, IsLastInRank, tally, total_of, if_passing, is_inserted_to, is_effective_to, is_of_transaction_to, is_ranked_to, is_ranked_before, is_from, is_to, date_of, is_between};
 ghost use Rattle.lg_moves.specs.Bounds.{is_by_rank, passes};
 ghost use Rattle.lg_moves.specs.Sums.{AreSums, IsBounded};
 ghost use Rattle.lg_moves.specs.Index.{is_before};
@@ -75,6 +75,7 @@ impl MoveIndex {
         ensures grows { self.old.spare ≤ self.new.spare }
         ensures ok { OnOk result (more ≤ self.new.spare) }
     {
+        let more = more.max(self.line.spare());
         self.late.reserve(more)?;
         self.line.reserve(more)
     }
@@ -86,6 +87,10 @@ impl MoveIndex {
         requires limit { IsWithinLimit (total_of (self.old.items ++ item ∷ [])) }
         ensures items { self.new.items ≡ self.old.items ++ item ∷ [] }
         ensures spare { self.new.spare + 1 ≡ self.old.spare }
+        // By the binary digits of the number of moves, and by their number, for every effective date.
+        ensures cost { (b : ℕ) → length self.old.items + 1 ≤ 2 ^ b → steps.new ≤ steps.old + (12 * b + 16) }
+        ensures bound { steps.new ≤ steps.old + (length self.old.items / 32 + 1024) }
+        ensures in_order { IsLastInRank self.old.items item → steps.new ≤ steps.old + 2 }
     {
         let timely = self.line.push(&item, steps);
         put_late(&mut self.late, timely, &item, steps);
@@ -104,6 +109,7 @@ impl MoveIndex {
     fn sum<L: Ledger>(&self, bound: &Bound, steps: &mut Steps<L>) -> Sums
         ensures value { AreSums result (λ part. sum_by (if_passing (passes bound.now) part) self.now.items) }
         ensures bounded { IsBounded (λ part. sum_by part self.now.items) }
+        ensures cost { (b : ℕ) → length self.now.items + 1 ≤ 2 ^ b → steps.new ≤ steps.old + (3 * b + 58) }
     {
         let sums = self.line.sum(bound, steps);
         with_late(sums, &self.late, bound, steps)
@@ -113,6 +119,7 @@ impl MoveIndex {
     pub fn at_insertion<L: Ledger>(&self, date: i64, steps: &mut Steps<L>) -> Volumes
         ensures value { result ≡ tally (is_inserted_to date) self.now.items }
         ensures limit { IsWithinLimit result }
+        ensures cost { (b : ℕ) → length self.now.items + 1 ≤ 2 ^ b → steps.new ≤ steps.old + (3 * b + 64) }
     {
         self.sum(&Bound::InsertedTo(date), steps).volumes()
     }
@@ -121,6 +128,7 @@ impl MoveIndex {
     pub fn at_effective<L: Ledger>(&self, date: i64, steps: &mut Steps<L>) -> Volumes
         ensures value { result ≡ tally (is_effective_to date) self.now.items }
         ensures limit { IsWithinLimit result }
+        ensures cost { (b : ℕ) → length self.now.items + 1 ≤ 2 ^ b → steps.new ≤ steps.old + (3 * b + 64) }
     {
         self.sum(&Bound::EffectiveTo(date), steps).volumes()
     }
@@ -129,6 +137,7 @@ impl MoveIndex {
     pub fn at_transaction<L: Ledger>(&self, id: u64, steps: &mut Steps<L>) -> Volumes
         ensures value { result ≡ tally (is_of_transaction_to id) self.now.items }
         ensures limit { IsWithinLimit result }
+        ensures cost { (b : ℕ) → length self.now.items + 1 ≤ 2 ^ b → steps.new ≤ steps.old + (3 * b + 64) }
     {
         self.sum(&Bound::TransactionTo(id), steps).volumes()
     }
@@ -137,6 +146,7 @@ impl MoveIndex {
     pub fn at_rank<L: Ledger>(&self, date: i64, id: u64, steps: &mut Steps<L>) -> Volumes
         ensures value { result ≡ tally (is_ranked_to date id) self.now.items }
         ensures limit { IsWithinLimit result }
+        ensures cost { (b : ℕ) → length self.now.items + 1 ≤ 2 ^ b → steps.new ≤ steps.old + (3 * b + 64) }
     {
         self.sum(&Bound::RankTo(date, id), steps).volumes()
     }
@@ -145,6 +155,7 @@ impl MoveIndex {
     pub fn before_rank<L: Ledger>(&self, date: i64, id: u64, steps: &mut Steps<L>) -> Volumes
         ensures value { result ≡ tally (is_ranked_before date id) self.now.items }
         ensures limit { IsWithinLimit result }
+        ensures cost { (b : ℕ) → length self.now.items + 1 ≤ 2 ^ b → steps.new ≤ steps.old + (3 * b + 64) }
     {
         self.sum(&Bound::RankBefore(date, id), steps).volumes()
     }
@@ -160,6 +171,7 @@ impl MoveIndex {
     ) -> Volumes
         ensures value { result ≡ tally (is_between from to by_insertion) self.now.items }
         ensures limit { IsWithinLimit result }
+        ensures cost { (b : ℕ) → length self.now.items + 1 ≤ 2 ^ b → steps.new ≤ steps.old + (6 * b + 128) }
     {
         self.sum_between(from, to, by_insertion, steps).volumes()
     }
@@ -174,6 +186,7 @@ impl MoveIndex {
         steps: &mut Steps<L>,
     ) -> bool
         ensures value { result ≡ list_any (is_between from to by_insertion) self.now.items }
+        ensures cost { (b : ℕ) → length self.now.items + 1 ≤ 2 ^ b → steps.new ≤ steps.old + (6 * b + 128) }
     {
         self.sum_between(from, to, by_insertion, steps).count > 0
     }
@@ -188,6 +201,7 @@ impl MoveIndex {
     ) -> Sums
         ensures value { AreSums result (λ part. sum_by (if_passing (is_between from to by_insertion) part) self.now.items) }
         ensures bounded { IsBounded (λ part. sum_by part self.now.items) }
+        ensures cost { (b : ℕ) → length self.now.items + 1 ≤ 2 ^ b → steps.new ≤ steps.old + (6 * b + 116) }
     {
         let _ = &self.late;
         if is_crossed(from, to) {
@@ -200,7 +214,8 @@ impl MoveIndex {
 
     /// The sums of the moves that aren't after a date.
     fn sum_to<L: Ledger>(&self, to: Option<i64>, by_insertion: bool, steps: &mut Steps<L>) -> Sums
-        ensures { AreSums result (λ part. sum_by (if_passing (λ m. is_to to (date_of by_insertion m)) part) self.now.items) }
+        ensures value { AreSums result (λ part. sum_by (if_passing (λ m. is_to to (date_of by_insertion m)) part) self.now.items) }
+        ensures cost { (b : ℕ) → length self.now.items + 1 ≤ 2 ^ b → steps.new ≤ steps.old + (3 * b + 58) }
     {
         match &to {
             Some(date) => self.sum(&Bound::up_to(date, by_insertion), steps),
@@ -215,7 +230,8 @@ impl MoveIndex {
         by_insertion: bool,
         steps: &mut Steps<L>,
     ) -> Sums
-        ensures { AreSums result (λ part. sum_by (if_passing (λ m. is_before from (date_of by_insertion m)) part) self.now.items) }
+        ensures value { AreSums result (λ part. sum_by (if_passing (λ m. is_before from (date_of by_insertion m)) part) self.now.items) }
+        ensures cost { (b : ℕ) → length self.now.items + 1 ≤ 2 ^ b → steps.new ≤ steps.old + (3 * b + 58) }
     {
         match &from {
             Some(date) => self.sum(&Bound::below(date, by_insertion), steps),
@@ -241,6 +257,8 @@ fn put_late<L: Ledger>(late: &mut Late, timely: bool, item: &Move, steps: &mut S
     requires bounded { IsBounded (λ part. sum_by part late.old.items + part item.now) }
     ensures sums { (part : Move → ℕ) → sum_by part late.new.items ≡ sum_by part late.old.items + (if timely then 0 else part item.now) }
     ensures spare { late.old.spare ≤ late.new.spare + 1 }
+    ensures none { timely ≡ true → steps.new ≡ steps.old }
+    ensures cost { (b : ℕ) → length late.old.items + 1 ≤ 2 ^ b → steps.new ≤ steps.old + (12 * b + 14) }
 {
     if !timely {
         late.insert(item, steps);
@@ -254,6 +272,7 @@ fn with_late<L: Ledger>(sums: Sums, late: &Late, bound: &Bound, steps: &mut Step
     requires count { is_by_rank bound.now ≡ true → sums.count + length late.now.items < 2 ^ 64 }
     ensures ranked { is_by_rank bound.now ≡ true → (total : (Move → ℕ) → ℕ) → AreSums sums total → AreSums result (λ part. total part + sum_by (if_passing (passes bound.now) part) late.now.items) }
     ensures other { is_by_rank bound.now ≡ false → result ≡ sums }
+    ensures cost { (b : ℕ) → length late.now.items + 1 ≤ 2 ^ b → steps.new ≤ steps.old + (2 * b + 41) }
 {
     if bound.is_by_rank() {
         sums.plus(late.sum(bound, steps))

@@ -2,6 +2,7 @@
 //! order of effective dates.
 #![tactic(auto)]
 
+mod block;
 mod bounds;
 mod entries;
 mod index;
@@ -9,7 +10,9 @@ mod late;
 mod line;
 mod marks;
 mod moves;
+mod scan;
 mod sums;
+mod tree;
 
 pub use index::MoveIndex;
 pub use lg_base::NoMemory;

@@ -6,7 +6,7 @@ ghost use Rattle.lg_moves.specs.Bounds.{is_near, key_of};
 ghost use Rattle.lg_moves.specs.declared.moves.Move.{Move};
 ghost use Rattle.lg_moves.specs.declared.marks.Mark.{Mark};
 ghost use Rattle.lg_moves.specs.Sums.{AreSums, IsBounded};
-ghost use Rattle.lg_moves.specs.Moves.{amount_in, amount_out, ComesNext};
+ghost use Rattle.lg_moves.specs.Moves.{amount_in, amount_out, ComesNext, IsLastInRank};
 ghost use Rattle.lg_moves.specs.Entries.{move_of, entry_of, every_part, hit_part};
 ghost use Rattle.lg_moves.specs.Line.{IsMarked, Follows, sums_in, IsUpTo, IsSearched, IsCutAt};
 
@@ -97,6 +97,7 @@ impl Line {
         ensures bounded { IsBounded (λ part. sum_by (every_part part) self.new.items) }
         ensures items { self.new.items ≡ self.old.items ++ entry_of item.now result ∷ [] }
         ensures spare { self.new.spare + 1 ≡ self.old.spare }
+        ensures timely { IsLastInRank (map move_of self.old.items) item.now → result ≡ true }
         ensures cost { steps.new ≤ steps.old + 2 }
     {
         let timely = is_timely(self.entries.len(), &self.end, item);
@@ -132,6 +133,7 @@ impl Line {
 /// Whether a move comes in the order of ranks after so many entries that end with this mark.
 fn is_timely(len: usize, end: &Mark, item: &Move) -> bool
     ensures first { len ≡ 0 → result ≡ true }
+    ensures late { result ≡ false → (0 < len) × (is_near (Bound.RankBefore end.now.key.date end.now.key.id) (key_of item.now) ≡ true) }
     ensures ranked { 0 < len → result ≡ true → is_near (Bound.RankBefore end.now.key.date end.now.key.id) (key_of item.now) ≡ false }
 {
     len == 0 || !Bound::RankBefore(end.key.date, end.key.id).is_near(&item.key())

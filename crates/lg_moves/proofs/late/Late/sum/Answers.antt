@@ -1,19 +1,34 @@
-use Rattle.std.proofs.Common.{◌≡◌, length, ◌≤◌, arith}
-use Rattle.std.specs.List.{sum_by}
-use Rattle.lg_moves.specs.declared.moves.Move.{Move}
-use Rattle.lg_moves.specs.Moves.{amount_in, amount_out}
-use Rattle.lg_moves.specs.Bounds.{passes}
-use Rattle.lg_moves.proofs.SumLemmas.{sum_passing_le, sum_by_ones}
+use Rattle.lg_moves.proofs.SumLemmas.{plus_sums}
+use Rattle.lg_moves.proofs.LateLemmas.{late_fit, late_within, few_within, sum_cost}
 use Rattle.lg_moves.proofs.late.Late.sum.Goals as goal
 
-pub returns-clause-input : goal.returns-clause-input
-returns-clause-input g c = omega (arith, c.sum_all.ensures.value.input, c.self.invariant.input, sum_passing_le (passes c.args.bound.now) amount_in c.self.inside.moves.items)
+pub plus-requires-clause-input : goal.plus-requires-clause-input
+plus-requires-clause-input g c = (late_fit c.args.bound.now c.self.inside.first.items c.self.inside.tree.items c.sum_all-few.result c.sum.result c.self.invariant.bounded c.sum_all-few.ensures.value c.sum.ensures.value).input
 
-pub returns-clause-output : goal.returns-clause-output
-returns-clause-output g c = omega (arith, c.sum_all.ensures.value.output, c.self.invariant.output, sum_passing_le (passes c.args.bound.now) amount_out c.self.inside.moves.items)
+pub plus-requires-clause-output : goal.plus-requires-clause-output
+plus-requires-clause-output g c = (late_fit c.args.bound.now c.self.inside.first.items c.self.inside.tree.items c.sum_all-few.result c.sum.result c.self.invariant.bounded c.sum_all-few.ensures.value c.sum.ensures.value).output
 
-pub returns-clause-count : goal.returns-clause-count
-returns-clause-count g c =
-    let n : sum_by (λ (_ : Move). 1) c.self.inside.moves.items ≡ length c.self.inside.moves.items = sum_by_ones c.self.inside.moves.items in
-    let h : c.sum_all.result.count ≤ length c.self.inside.moves.items = omega (arith, c.sum_all.ensures.value.count, sum_passing_le (passes c.args.bound.now) (λ _. 1) c.self.inside.moves.items) in
-    rw (← c.self.view_is) h
+pub plus-requires-clause-count : goal.plus-requires-clause-count
+plus-requires-clause-count g c = (late_fit c.args.bound.now c.self.inside.first.items c.self.inside.tree.items c.sum_all-few.result c.sum.result c.self.invariant.bounded c.sum_all-few.ensures.value c.sum.ensures.value).count
+
+pub returns-then-is_empty-clause-input : goal.returns-then-is_empty-clause-input
+returns-then-is_empty-clause-input g c = (few_within c.args.bound.now c.self.inside.first.items c.self.inside.tree.items c.sum_all-few.result c.self.invariant.bounded c.sum_all-few.ensures.value).input
+
+pub returns-then-is_empty-clause-output : goal.returns-then-is_empty-clause-output
+returns-then-is_empty-clause-output g c = (few_within c.args.bound.now c.self.inside.first.items c.self.inside.tree.items c.sum_all-few.result c.self.invariant.bounded c.sum_all-few.ensures.value).output
+
+pub returns-then-is_empty-clause-count : goal.returns-then-is_empty-clause-count
+returns-then-is_empty-clause-count g c = rw (← c.self.view_is) (few_within c.args.bound.now c.self.inside.first.items c.self.inside.tree.items c.sum_all-few.result c.self.invariant.bounded c.sum_all-few.ensures.value).count
+
+pub returns-else-is_empty-clause-input : goal.returns-else-is_empty-clause-input
+returns-else-is_empty-clause-input g c = (late_within c.args.bound.now c.self.inside.first.items c.self.inside.tree.items c.plus.result c.self.invariant.bounded (plus_sums c.sum_all-few.ensures.value c.sum.ensures.value c.plus.result c.plus.ensures)).input
+
+pub returns-else-is_empty-clause-output : goal.returns-else-is_empty-clause-output
+returns-else-is_empty-clause-output g c = (late_within c.args.bound.now c.self.inside.first.items c.self.inside.tree.items c.plus.result c.self.invariant.bounded (plus_sums c.sum_all-few.ensures.value c.sum.ensures.value c.plus.result c.plus.ensures)).output
+
+pub returns-else-is_empty-clause-count : goal.returns-else-is_empty-clause-count
+returns-else-is_empty-clause-count g c = rw (← c.self.view_is) (late_within c.args.bound.now c.self.inside.first.items c.self.inside.tree.items c.plus.result c.self.invariant.bounded (plus_sums c.sum_all-few.ensures.value c.sum.ensures.value c.plus.result c.plus.ensures)).count
+
+pub returns-else-is_empty-clause-cost : goal.returns-else-is_empty-clause-cost
+returns-else-is_empty-clause-cost g c =
+    rw (← c.self.view_is) (sum_cost c.self.inside.first c.self.inside.tree c.self.inside.pool c.self.inside.blocks c.args.steps.now c.sum_all-few.new.steps c.sum.new.steps c.self.invariant (c.is_empty.ensures.some c.if-is_empty.false) c.sum_all-few.ensures.cost c.sum.ensures.cost)

@@ -1,7 +1,9 @@
-use Rattle.std.proofs.Common.{◌≡◌, ◌%◌, ◌∷◌, [], ◌++◌, ap, arith, ◌<◌, ◌∙◌}
+use Rattle.std.proofs.Common.{inl, inr, sym, length, ◌≡◌, ◌%◌, ◌∷◌, [], ◌++◌, ap, arith, ◌<◌, ◌∙◌}
+use Rattle.std.proofs.lemmas.Bool.{false≢true}
+use Rattle.lg_moves.proofs.SumLemmas.{true_or_false}
 use Rattle.lg_moves.specs.Entries.{entry_of}
 use Rattle.lg_moves.specs.Line.{mark_after}
-use Rattle.lg_moves.proofs.LineLemmas.{bounded_from, timely_fits, follows_from_next, line_push, line_push_due}
+use Rattle.lg_moves.proofs.LineLemmas.{bounded_from, timely_fits, follows_from_next, line_push, line_push_due, last_in_rank}
 use Rattle.lg_moves.proofs.line.Line.push.Goals as goal
 
 pub after-self-inside-requires-clause-count : goal.after-self-inside-requires-clause-count
@@ -50,3 +52,23 @@ invariant_of-self-else-len-eq0 g c =
     let is : c.push.new.self.items ≡ c.self.inside.entries.items ++ entry_of c.args.item.now c.is_timely-timely.result ∷ [] = rw c.new.ensures at c.push.ensures.items in
     rw c.after-self-inside.ensures (line_push c.self.inside.entries.items c.self.inside.entries.spare c.self.inside.marks c.self.inside.end c.args.item.now c.is_timely-timely.result c.push.new.self
     c.self.invariant f b is c.push.ensures.spare (λ e. c.if-len-eq0.false (ap (λ n. n % 16) c.len-2.ensures.value ∙ e)))
+
+pub returns-then-len-eq0-clause-timely : goal.returns-then-len-eq0-clause-timely
+returns-then-len-eq0-clause-timely g c last =
+    elim (true_or_false c.is_timely-timely.result) [
+      | inl t ↦ t
+      | inr f ↦
+          (let late = c.is_timely-timely.ensures.late f in
+          let some : 0 < length c.self.inside.entries.items = omega (arith, late.0, c.len.ensures.value) in
+          absurd (false≢true (sym (last_in_rank c.self.inside.entries.items c.self.inside.marks.items c.self.inside.end c.args.item.now c.self.invariant.marked some (rw (← c.self.view_is) at last)) ∙ late.1)))
+    ]
+
+pub returns-else-len-eq0-clause-timely : goal.returns-else-len-eq0-clause-timely
+returns-else-len-eq0-clause-timely g c last =
+    elim (true_or_false c.is_timely-timely.result) [
+      | inl t ↦ t
+      | inr f ↦
+          (let late = c.is_timely-timely.ensures.late f in
+          let some : 0 < length c.self.inside.entries.items = omega (arith, late.0, c.len.ensures.value) in
+          absurd (false≢true (sym (last_in_rank c.self.inside.entries.items c.self.inside.marks.items c.self.inside.end c.args.item.now c.self.invariant.marked some (rw (← c.self.view_is) at last)) ∙ late.1)))
+    ]

@@ -1,7 +1,7 @@
 use Rattle.std.proofs.Common.{arith}
 use Rattle.lg_moves.specs.Bounds.{passes}
 use Rattle.lg_moves.proofs.SumLemmas.{passing_fits, passing_more}
-use Rattle.lg_moves.proofs.late.sum_all.Goals as goal
+use Rattle.lg_moves.proofs.scan.sum_all.Goals as goal
 
 pub with_passing-sums-requires-clause-input : goal.with_passing-sums-requires-clause-input
 with_passing-sums-requires-clause-input g c = (passing_fits (passes c.args.bound.now) c.args.moves.now.items c.loop-i.i c.loop-i.sums (omega arith) c.requires c.loop-i.invariant.0).input
