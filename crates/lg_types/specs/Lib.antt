@@ -1,3 +1,4 @@
+pub mod CallPartTexts
 pub mod CallTexts
 pub mod Chain
 pub mod Changes

@@ -1,6 +1,8 @@
 //! The records of a ledger, and the definitions that every contract above cites.
 #![tactic(auto)]
 
+mod call_parts;
+mod call_texts;
 mod calls;
 mod changes;
 mod classes;
@@ -21,6 +23,8 @@ mod record_texts;
 mod records;
 mod refusals;
 
+pub use call_parts::CallPart;
+pub use call_texts::call_text;
 pub use calls::{Batch, Call, Element, ElementWrite, Write};
 pub use changes::MetaChange;
 pub use classes::Class;
@@ -45,3 +49,6 @@ pub use refusals::{FaultKind, ImportCause, Reason, Refusal};
 
 /// The entries of a log.
 pub type Entries = List<Entry>;
+
+#[cfg(test)]
+mod tests;
