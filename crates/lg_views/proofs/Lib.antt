@@ -9,3 +9,4 @@ pub mod ReadBack
 pub mod Refused
 pub mod Tests
 pub mod Walks
+pub mod Within

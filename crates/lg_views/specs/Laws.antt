@@ -15,6 +15,9 @@ use Rattle.lg_views.specs.declared.replies.Content.TheVariants as content
 use Rattle.lg_views.specs.History.{Legal, Alone}
 use Rattle.lg_views.specs.Import.{IsImportable, NumberedLine, Read, checked_lines}
 use Rattle.lg_views.specs.Outcome.{Task, ToWrite, ToBulk, ToImport, ToRead, in_ledger, outcome, AnswerAlike}
+use Rattle.lg_base.specs.Volumes.{IsWithinLimit}
+use Rattle.lg_types.specs.declared.moves.Move.{Move}
+use Rattle.lg_types.specs.Moves.{moves, volumes}
 
 -- the entries of a batch come from lines that were checked, so they are importable
 abbrev pub IsGoodBatch : Batch → Type 0
@@ -84,3 +87,7 @@ IsRefusal _ = ⊥
 
 abbrev pub RefusedAppendsNothing : Type 0
 RefusedAppendsNothing = (events : List Event) (c : Call) (now : ℤ) → IsRefusal (outcome events c now).0.content → (outcome events c now).1 ≡ []
+
+-- in an importable log no input and no output passes the limit, whatever moves are counted
+abbrev pub VolumesWithinLimit : Type 0
+VolumesWithinLimit = (g : List Entry) → IsImportable g → (test : Move → Bool) (account asset : List ℕ) → IsWithinLimit (volumes (moves g) test account asset)
