@@ -15,26 +15,26 @@ use crate::sink_feed::write_whole;
 #[derive(Drop)]
 pub struct BufferedFeed<'a, K: Sink> {
     sink: &'a mut K,
-    buffer: OutputBuffer,
+    buffer: &'a mut OutputBuffer,
 }
 
 impl<'a, K: Sink> BufferedFeed<'a, K> {
     /// A feed of this sink. What the sink holds already counts as fed.
-    pub fn new(sink: &'a mut K, buffer: OutputBuffer) -> BufferedFeed<'a, K>
+    pub fn new(sink: &'a mut K, buffer: &'a mut OutputBuffer) -> BufferedFeed<'a, K>
         ensures same_reference { result.sink.ghost_name ≡ sink.entry.ghost_name }
         ensures sink { result.sink.now ≡ sink.old }
-        ensures buffer { result.buffer ≡ buffer }
+        ensures buffer { result.buffer.now ≡ buffer.old }
     {
         BufferedFeed { sink, buffer }
     }
 
     /// Writes what waits.
     pub fn flush(&mut self) -> Result<(), Stop>
-        ensures passed { PassesOn (K.written self.old.sink.now) (K.written self.new.sink.now) (waiting self.old.buffer) (waiting self.new.buffer) (K.faults self.old.sink.now) (K.faults self.new.sink.now) result }
+        ensures passed { PassesOn (K.written self.old.sink.now) (K.written self.new.sink.now) (waiting self.old.buffer.now) (waiting self.new.buffer.now) (K.faults self.old.sink.now) (K.faults self.new.sink.now) result }
         ensures same_reference { self.new.sink.ghost_name ≡ self.old.sink.ghost_name }
-        ensures empty { IfOk result (λ _. length self.new.buffer.bytes.items ≡ 0) }
+        ensures empty { IfOk result (λ _. length self.new.buffer.now.bytes.items ≡ 0) }
     {
-        write_waiting(self.sink, &mut self.buffer)
+        write_waiting(self.sink, self.buffer)
     }
 }
 
@@ -66,14 +66,14 @@ fn write_from<K: Sink>(sink: &mut K, bytes: &[u8], start: &mut usize) -> Result<
 }
 
 impl<'a, K: Sink> Feed for BufferedFeed<'a, K> {
-    ghost fed = { λ f m. Ahead (K.written f.sink.now) (waiting f.buffer) m };
+    ghost fed = { λ f m. Ahead (K.written f.sink.now) (waiting f.buffer.now) m };
 
     ghost stops = { λ f. K.faults f.sink.now };
 
     ghost lent = { λ f. f.sink.ghost_name };
 
     fn piece(&mut self, bytes: &[u8]) -> Result<(), Stop> {
-        give_buffered(self.sink, &mut self.buffer, bytes)
+        give_buffered(self.sink, self.buffer, bytes)
     }
 }
 

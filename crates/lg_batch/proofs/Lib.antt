@@ -1,1 +1,5 @@
+pub mod Buffering
+pub mod History
+pub mod Nested
+pub mod Placing
 pub mod TotalLemmas
