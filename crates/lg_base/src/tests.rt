@@ -67,7 +67,7 @@ fn sinks_are_written_whole(rt: HostRuntime) -> Result<(), Fail> {
     Ok(())
 }
 
-fn feed_through(sink: &mut MemSink, buffer: OutputBuffer) -> Result<(), Stop> {
+fn feed_through(sink: &mut MemSink, buffer: &mut OutputBuffer) -> Result<(), Stop> {
     let mut feed = BufferedFeed::new(sink, buffer);
     feed.piece(b"abc")?;
     feed.piece(b"defgh")?;
@@ -77,8 +77,8 @@ fn feed_through(sink: &mut MemSink, buffer: OutputBuffer) -> Result<(), Stop> {
 #[test]
 fn a_buffer_waits_in_front_of_a_sink(rt: HostRuntime) -> Result<(), Fail> {
     let mut sink = MemSink::new(rt.alloc(), Vec::new(rt.alloc()), 3, 100)?;
-    let buffer = OutputBuffer::new(rt.alloc())?;
-    assert_eq!(rt; feed_through(&mut sink, buffer), Ok(()));
+    let mut buffer = OutputBuffer::new(rt.alloc())?;
+    assert_eq!(rt; feed_through(&mut sink, &mut buffer), Ok(()));
     assert!(rt; sink.written() == b"abcdefgh".as_slice());
     Ok(())
 }

@@ -1,5 +1,13 @@
 pub mod Buffering
+pub mod Built
+pub mod Cuts
+pub mod Found
 pub mod History
+pub mod LogLemmas
 pub mod Nested
+pub mod Numbered
 pub mod Placing
+pub mod PlainLemmas
+pub mod Shown
 pub mod TotalLemmas
+pub mod TrialLemmas

@@ -1,6 +1,6 @@
 -- The totals of moves as sums over postings.
 use Rattle.std.proofs.Common.{◌≡◌, ℕ, ℤ, ◌+◌, ◌^◌, ◌<◌, ◌≤◌, Bool, true, false, ◌&&◌, cond, List, [], ◌∷◌, ◌++◌, map, refl, sym, ◌∙◌, ap, subst, arith}
-use Rattle.std.specs.Prelude.{Option, Some, None}
+use Rattle.std.specs.Prelude.{Option, Some, None, pos}
 use Rattle.std.specs.List.{sum_by, flat_map, filter}
 use Rattle.std.specs.Str.{bytes_eq}
 use Rattle.std.proofs.lemmas.List.Sums.{sum_by-cons, sum_by-append}
@@ -9,9 +9,13 @@ use Rattle.lg_types.specs.declared.records.Posting.{Posting}
 use Rattle.lg_types.specs.declared.records.Transaction.{Transaction}
 use Rattle.lg_types.specs.declared.records.Entry.{Entry}
 use Rattle.lg_types.specs.declared.records.EntryBody.{EntryBody}
+use Rattle.lg_types.specs.declared.records.Event.{Event}
+use Rattle.lg_types.specs.declared.records.Event.TheVariants.{Made, Logged}
+use Rattle.lg_types.specs.Log.{log, logged}
+use Rattle.lg_types.specs.Trial.{tried_moves}
 use Rattle.lg_types.specs.Tally.{amount_in, amount_out, if_passing}
 use Rattle.lg_types.specs.Moves.{Placed, is_of, what_of, total, out_move, in_move, posting_moves, transaction_moves, body_transaction, entry_moves, moves}
-use Rattle.lg_batch.specs.Totals.{posting_in, posting_out, postings_of, entry_postings, entry_in, entry_out}
+use Rattle.lg_batch.specs.Totals.{the_ledger, posting_in, posting_out, postings_of, entry_postings, entry_in, entry_out, event_in, event_out}
 
 -- volumes with equal inputs and equal outputs
 pub volumes_by : (v w : Volumes) → v.input ≡ w.input → v.output ≡ w.output → v ≡ w
@@ -107,9 +111,51 @@ module _ (account asset : List ℕ) where
       ∙ ap (λ (k : ℕ). entry_out account asset e + k) (log_moves-out g)
       ∙ sym (sum_by-cons (entry_out account asset) e g)
 
-  -- the totals of a log followed by tried postings
-  pub lent-in : (g : List Entry) (ms : List Placed) → (total (moves g ++ ms) account asset).input ≡ sum_by (entry_in account asset) g + sum_by move_in ms
-  lent-in g ms = total-in (moves g ++ ms) ∙ sum_by-append move_in (moves g) ms ∙ ap (λ (k : ℕ). k + sum_by move_in ms) (log_moves-in g)
+  sum_if : (b : Bool) (e : Entry) → sum_by (entry_in account asset) (cond b (e ∷ []) []) ≡ sum_by (posting_in account asset) (cond b (entry_postings e) [])
+  sum_if true e = sum_by-cons (entry_in account asset) e [] ∙ omega arith
+  sum_if false e = refl
 
-  pub lent-out : (g : List Entry) (ms : List Placed) → (total (moves g ++ ms) account asset).output ≡ sum_by (entry_out account asset) g + sum_by move_out ms
-  lent-out g ms = total-out (moves g ++ ms) ∙ sum_by-append move_out (moves g) ms ∙ ap (λ (k : ℕ). k + sum_by move_out ms) (log_moves-out g)
+  sum_out_if : (b : Bool) (e : Entry) → sum_by (entry_out account asset) (cond b (e ∷ []) []) ≡ sum_by (posting_out account asset) (cond b (entry_postings e) [])
+  sum_out_if true e = sum_by-cons (entry_out account asset) e [] ∙ omega arith
+  sum_out_if false e = refl
+
+  event-in : (event : Event) → sum_by (entry_in account asset) (logged the_ledger event) ≡ event_in account asset event
+  event-in (Made info) = refl
+  event-in (Logged ledger e) = sum_if (bytes_eq ledger the_ledger) e
+
+  event-out : (event : Event) → sum_by (entry_out account asset) (logged the_ledger event) ≡ event_out account asset event
+  event-out (Made info) = refl
+  event-out (Logged ledger e) = sum_out_if (bytes_eq ledger the_ledger) e
+
+  pub events-in : (events : List Event) → sum_by (entry_in account asset) (log events the_ledger) ≡ sum_by (event_in account asset) events
+  events-in [] = refl
+  events-in (event ∷ events) =
+      sum_by-append (entry_in account asset) (logged the_ledger event) (log events the_ledger)
+      ∙ ap (λ (k : ℕ). k + sum_by (entry_in account asset) (log events the_ledger)) (event-in event)
+      ∙ ap (λ (k : ℕ). event_in account asset event + k) (events-in events)
+      ∙ sym (sum_by-cons (event_in account asset) event events)
+
+  pub events-out : (events : List Event) → sum_by (entry_out account asset) (log events the_ledger) ≡ sum_by (event_out account asset) events
+  events-out [] = refl
+  events-out (event ∷ events) =
+      sum_by-append (entry_out account asset) (logged the_ledger event) (log events the_ledger)
+      ∙ ap (λ (k : ℕ). k + sum_by (entry_out account asset) (log events the_ledger)) (event-out event)
+      ∙ ap (λ (k : ℕ). event_out account asset event + k) (events-out events)
+      ∙ sym (sum_by-cons (event_out account asset) event events)
+
+  -- the totals of the one ledger's log followed by tried postings
+  pub lent-in : (events : List Event) (ps : List Posting)
+      → (total (moves (log events the_ledger) ++ flat_map tried_moves ps) account asset).input ≡ sum_by (event_in account asset) events + sum_by (posting_in account asset) ps
+  lent-in events ps =
+      total-in (moves (log events the_ledger) ++ flat_map tried_moves ps)
+      ∙ sum_by-append move_in (moves (log events the_ledger)) (flat_map tried_moves ps)
+      ∙ ap (λ (k : ℕ). k + sum_by move_in (flat_map tried_moves ps)) (log_moves-in (log events the_ledger) ∙ events-in events)
+      ∙ ap (λ (k : ℕ). sum_by (event_in account asset) events + k) (all_moves-in 0 (pos 0) (pos 0) ps)
+
+  pub lent-out : (events : List Event) (ps : List Posting)
+      → (total (moves (log events the_ledger) ++ flat_map tried_moves ps) account asset).output ≡ sum_by (event_out account asset) events + sum_by (posting_out account asset) ps
+  lent-out events ps =
+      total-out (moves (log events the_ledger) ++ flat_map tried_moves ps)
+      ∙ sum_by-append move_out (moves (log events the_ledger)) (flat_map tried_moves ps)
+      ∙ ap (λ (k : ℕ). k + sum_by move_out (flat_map tried_moves ps)) (log_moves-out (log events the_ledger) ∙ events-out events)
+      ∙ ap (λ (k : ℕ). sum_by (event_out account asset) events + k) (all_moves-out 0 (pos 0) (pos 0) ps)

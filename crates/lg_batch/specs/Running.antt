@@ -18,18 +18,22 @@ use Rattle.lg_views.specs.declared.replies.Reply.{Reply}
 use Rattle.lg_views.specs.declared.views.TransactionView.{TransactionView}
 use Rattle.lg_views.specs.Replies.{plain, refused}
 use Rattle.lg_views.specs.Outcome.{outcome}
+use Rattle.lg_containers.specs.NameTable.{empty}
+use Rattle.lg_batch.specs.Totals.{the_ledger}
 use Rattle.lg_batch.specs.declared.taken.Taken.{Taken}
 use Rattle.lg_batch.specs.declared.taken.Taken.TheVariants.{Appended, Refused}
 
--- the writes that are built: a creation without key and reference
-abbrev pub IsBuiltWrite : Option (List ℕ) → Write → Type 0
-IsBuiltWrite None (Create postings None timestamp metadata accounts force) = Unit {0}
-IsBuiltWrite key write = ⊥
+-- the writes that are built: a creation on the one ledger, without key, reference and metadata, that no account is
+-- forced for
+abbrev pub IsBuiltWrite : List ℕ → Option (List ℕ) → Write → Type 0
+IsBuiltWrite ledger key (Create postings reference timestamp metadata accounts force) =
+    (ledger ≡ the_ledger) × (key ≡ None) × (reference ≡ None) × (metadata ≡ empty) × (accounts ≡ empty) × (force ≡ false)
+IsBuiltWrite ledger key write = ⊥
 
--- the calls that are built: such a write on a ledger, and a request that can't be read
+-- the calls that are built: such a write, and a request that can't be read
 abbrev pub IsBuilt : Call → Type 0
 IsBuilt (Unreadable refusal) = Unit {0}
-IsBuilt (WriteCall ledger key write) = IsBuiltWrite key write
+IsBuilt (WriteCall ledger key write) = IsBuiltWrite ledger key write
 IsBuilt call = ⊥
 
 -- the volumes of a transaction are left out

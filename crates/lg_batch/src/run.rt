@@ -6,14 +6,28 @@ ghost use Rattle.lg_batch.specs.Runs.{IsBuiltLine, RunsTo, EndsRun};
 
 use crate::ledger::Ledger;
 use crate::output::write_output;
+use crate::plain::Plain;
 use crate::run_end::RunEnd;
+use crate::script::Script;
 use crate::taken_lines::TakenLine;
 use lg_base::{NoMemory, OutputBuffer, Sink, Stop};
 use lg_views::ScriptLine;
 use std::alloc::Global;
 
+/// Runs a script on one thread, over a ledger of its own, and writes the output: a line for each reply, then a line for
+/// each event. Nothing is written where memory is wanting.
+pub fn run_script<K: Sink>(alloc: Global, script: &Script, out: &mut K) -> RunEnd
+    ensures { EndsRun K.Sink script.now out.old out.new result }
+{
+    let mut plain = match Plain::new(alloc) {
+        Ok(plain) => plain,
+        Err(NoMemory) => return RunEnd::NoMemory,
+    };
+    run_on(alloc, &mut plain, script.as_slice(), out)
+}
+
 /// Runs the lines on a ledger without entries, and writes what came of them.
-pub fn run_on<L: Ledger, K: Sink>(
+fn run_on<L: Ledger, K: Sink>(
     alloc: Global,
     ledger: &mut L,
     lines: &[ScriptLine],

@@ -3,32 +3,52 @@
 ghost use Rattle.std.specs.Prelude.{◌≡◌, ◌+◌, ◌^◌, ◌<◌, ◌++◌};
 ghost use Rattle.std.specs.List.{sum_by, flat_map};
 ghost use Rattle.lg_base.specs.Volumes.{IsWithinLimit};
+ghost use Rattle.lg_types.specs.Log.{log};
 ghost use Rattle.lg_types.specs.Moves.{moves, total};
 ghost use Rattle.lg_types.specs.Trial.{tried_moves};
-ghost use Rattle.lg_batch.specs.Totals.{posting_in, posting_out, entry_in, entry_out, entry_postings};
+ghost use Rattle.lg_batch.specs.Totals.{the_ledger, posting_in, posting_out, event_in, event_out, event_postings, entry_postings};
 
-use lg_types::{Entry, EntryBody, Posting, Volumes};
+use lg_types::{Entry, EntryBody, Event, Posting, Volumes};
 
 /// The volumes of the account and the asset over the log and the tried postings after it.
-pub fn lent_total(log: &[Entry], tried: &[Posting], account: &[u8], asset: &[u8]) -> Volumes
-    requires { IsWithinLimit (total (moves log.now ++ flat_map tried_moves tried.now) account.now asset.now) }
-    ensures { result ≡ total (moves log.now ++ flat_map tried_moves tried.now) account.now asset.now }
+pub fn lent_total(events: &[Event], tried: &[Posting], account: &[u8], asset: &[u8]) -> Volumes
+    requires { IsWithinLimit (total (moves (log events.now the_ledger) ++ flat_map tried_moves tried.now) account.now asset.now) }
+    ensures { result ≡ total (moves (log events.now the_ledger) ++ flat_map tried_moves tried.now) account.now asset.now }
 {
-    let kept = add_entries(log, account, asset);
+    let kept = add_events(events, account, asset);
     add_postings(kept, tried, account, asset)
 }
 
-fn add_entries(log: &[Entry], account: &[u8], asset: &[u8]) -> Volumes
-    requires input { sum_by (entry_in account.now asset.now) log.now < 2 ^ 127 }
-    requires output { sum_by (entry_out account.now asset.now) log.now < 2 ^ 127 }
-    ensures input { result.input ≡ sum_by (entry_in account.now asset.now) log.now }
-    ensures output { result.output ≡ sum_by (entry_out account.now asset.now) log.now }
+fn add_events(events: &[Event], account: &[u8], asset: &[u8]) -> Volumes
+    requires input { sum_by (event_in account.now asset.now) events.now < 2 ^ 127 }
+    requires output { sum_by (event_out account.now asset.now) events.now < 2 ^ 127 }
+    ensures input { result.input ≡ sum_by (event_in account.now asset.now) events.now }
+    ensures output { result.output ≡ sum_by (event_out account.now asset.now) events.now }
 {
-    let mut sum = Volumes { input: 0, output: 0 };
-    for entry in log {
-        sum = add_postings(sum, postings_of(entry), account, asset);
+    let mut sum = Volumes {
+        input: 0,
+        output: 0,
+    };
+    for event in events {
+        sum = add_postings(sum, postings_of_event(event), account, asset);
     }
     sum
+}
+
+/// The postings of the transaction that an event of the one ledger made, if it made one.
+fn postings_of_event(event: &Event) -> &[Posting]
+    ensures { result.now ≡ event_postings event.now }
+{
+    match event {
+        Event::Made(_) => &[],
+        Event::Logged { ledger, entry } => {
+            if ledger.bytes() == b"default".as_slice() {
+                postings_of(entry)
+            } else {
+                &[]
+            }
+        }
+    }
 }
 
 /// The postings of the transaction that an entry made, if it made one.
@@ -61,11 +81,19 @@ fn add_postings(start: Volumes, postings: &[Posting], account: &[u8], asset: &[u
 fn amount_in(posting: &Posting, account: &[u8], asset: &[u8]) -> u128
     ensures { result ≡ posting_in account.now asset.now posting.now }
 {
-    if posting.destination.bytes() == account && posting.asset.bytes() == asset { posting.amount.value() } else { 0 }
+    if posting.destination.bytes() == account && posting.asset.bytes() == asset {
+        posting.amount.value()
+    } else {
+        0
+    }
 }
 
 fn amount_out(posting: &Posting, account: &[u8], asset: &[u8]) -> u128
     ensures { result ≡ posting_out account.now asset.now posting.now }
 {
-    if posting.source.bytes() == account && posting.asset.bytes() == asset { posting.amount.value() } else { 0 }
+    if posting.source.bytes() == account && posting.asset.bytes() == asset {
+        posting.amount.value()
+    } else {
+        0
+    }
 }

@@ -6,3 +6,6 @@ mod sealing;
 
 pub use hash_feed::HashFeed;
 pub use sealing::{seal, seal_first};
+
+#[cfg(test)]
+mod tests;

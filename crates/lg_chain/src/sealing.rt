@@ -5,11 +5,10 @@ ghost use Rattle.lg_base.specs.Feeding.{Feeds};
 ghost use Rattle.lg_types.specs.Chain.{line_hash, sealed_text, before_text};
 ghost use Rattle.lg_types.specs.declared.forms.EntryForm.TheVariants.{Chained, FirstChained};
 
-use lg_base::{Feed, Stop};
-use lg_containers::Canonical;
-use lg_types::{Entry, EntryForm, Part, entry_text};
-
 use crate::hash_feed::HashFeed;
+use lg_base::{Feed, Stop};
+use lg_containers::feed_all;
+use lg_types::{Entry, EntryForm, Part, entry_text};
 
 /// The hash of an entry after the hash of the entry before it, or as a ledger's first, by the text of log form 2. The
 /// hash that the entry has isn't looked at.
@@ -37,7 +36,12 @@ fn hash_of(form: EntryForm, previous: Option<[u8; 32]>, entry: &Entry) -> [u8; 3
 }
 
 /// Feeds what is hashed of an entry.
-fn feed_sealed<F: Feed>(form: EntryForm, previous: Option<[u8; 32]>, entry: &Entry, to: &mut F) -> Result<(), Stop>
+fn feed_sealed<F: Feed>(
+    form: EntryForm,
+    previous: Option<[u8; 32]>,
+    entry: &Entry,
+    to: &mut F,
+) -> Result<(), Stop>
     ensures { Feeds F.Feed to.old to.new (sealed_text form previous entry.now) result }
 {
     feed_before(previous, to)?;
@@ -51,9 +55,6 @@ fn feed_before<F: Feed>(previous: Option<[u8; 32]>, to: &mut F) -> Result<(), St
 {
     match previous {
         None => to.piece(b""),
-        Some(hash) => {
-            Part::Hash(&hash).feed_to(to)?;
-            to.piece(b"\n")
-        }
+        Some(hash) => feed_all(&[Part::Hash(&hash), Part::Plain(b"\n")], to),
     }
 }

@@ -1,2 +1,4 @@
+pub mod KeyRows
+pub mod ListRows
 pub mod Rows
 pub mod Scenes

@@ -1,9 +1,8 @@
 -- Worked examples: what calls of an empty product come to.
-use Rattle.std.specs.Prelude.{◌≡◌, ℕ, ℤ, pos, negsuc, Bool, true, false, List, [], ◌∷◌, Option, Some, None, codes}
+use Rattle.std.specs.Prelude.{◌≡◌, ℕ, ℤ, pos, negsuc, Bool, true, false, List, [], ◌∷◌, Some, None, codes}
+use Rattle.std.specs.Fmt.{digits}
 use Rattle.lg_containers.specs.NameTable as table
-use Rattle.lg_types.specs.declared.calls.Call.TheVariants as call
-use Rattle.lg_types.specs.declared.calls.Write.{Write}
-use Rattle.lg_types.specs.declared.calls.Write.TheVariants.{Create, Revert, SetMeta, DropMeta}
+use Rattle.lg_types.specs.declared.calls.Write.TheVariants.{Revert, SetMeta, DropMeta}
 use Rattle.lg_types.specs.declared.classes.Class.TheVariants.{Account as AccountClass}
 use Rattle.lg_types.specs.declared.queries.Expand.{Expand}
 use Rattle.lg_types.specs.declared.queries.Read.TheVariants as read
@@ -17,11 +16,11 @@ use Rattle.lg_views.specs.declared.views.AccountView.{AccountView}
 use Rattle.lg_views.specs.declared.views.TransactionView.{TransactionView}
 use Rattle.lg_views.specs.Outcome.{outcome}
 use Rattle.lg_views.specs.Replies.{plain, refused}
-use Rattle.lg_rows.specs.Scenes.{day, eve, default, posting, creation, Asked, asked, reading, reply_after, events_after, volumes, one_asset, two_accounts, three_accounts, four, all_expanded, none_expanded, listing, element, transaction_shown}
+use Rattle.lg_rows.specs.Scenes.{day, eve, default, posting, creation, Asked, asked, reading, reply_after, events_after, volumes, one_asset, two_accounts, three_accounts, four, all_expanded, none_expanded, transaction_shown}
 
 -- all that is unfolded where a row is computed
 unfoldable pub computed : Unit {0}
-unfolding outcome table.pairs_of table.keys table.values table.len table.get table.contains table.empty table.insert table.remove table.from_pairs table.if_in_order stripe
+unfolding outcome table.pairs_of table.keys table.values table.len table.get table.contains table.empty table.insert table.remove table.from_pairs table.if_in_order stripe digits
 computed = tt
 
 abbrev pub world : List ℕ

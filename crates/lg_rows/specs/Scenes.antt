@@ -1,6 +1,5 @@
 -- Words for worked examples: calls of `default` in January 2024, and what is seen of their replies.
-use Rattle.std.specs.Prelude.{ℕ, ◌+◌, ◌-◌, ◌*◌, ℤ, pos, Bool, true, false, List, [], ◌∷◌, ◌++◌, Option, Some, None, codes}
-use Rattle.std.specs.Option.{option_to_list}
+use Rattle.std.specs.Prelude.{ℕ, ◌+◌, ◌*◌, ℤ, pos, true, false, List, [], ◌∷◌, ◌++◌, Option, Some, None, codes}
 use Rattle.lg_base.specs.declared.amounts.Volumes.{Volumes}
 use Rattle.lg_containers.specs.NameTable as table
 use Rattle.lg_types.specs.declared.calls.Call.{Call}
@@ -8,16 +7,14 @@ use Rattle.lg_types.specs.declared.calls.Call.TheVariants as call
 use Rattle.lg_types.specs.declared.calls.Element.{Element}
 use Rattle.lg_types.specs.declared.calls.ElementWrite.TheVariants.{Good}
 use Rattle.lg_types.specs.declared.calls.Write.{Write}
-use Rattle.lg_types.specs.declared.calls.Write.TheVariants.{Create, Revert, SetMeta, DropMeta}
-use Rattle.lg_types.specs.declared.filters.Filter.{Filter, All}
+use Rattle.lg_types.specs.declared.calls.Write.TheVariants.{Create}
+use Rattle.lg_types.specs.declared.filters.Filter.{Filter}
 use Rattle.lg_types.specs.declared.queries.Expand.{Expand}
 use Rattle.lg_types.specs.declared.queries.Query.{Query}
 use Rattle.lg_types.specs.declared.queries.Read.{Read}
 use Rattle.lg_types.specs.declared.queries.Span.{Span}
 use Rattle.lg_types.specs.declared.records.Event.{Event}
 use Rattle.lg_types.specs.declared.records.Posting.{Posting}
-use Rattle.lg_types.specs.declared.records.Target.TheVariants.{Account}
-use Rattle.lg_types.specs.Changes.{MetaOf}
 use Rattle.lg_types.specs.Log.{first_events}
 use Rattle.lg_views.specs.declared.replies.Content.{Content}
 use Rattle.lg_views.specs.declared.replies.Content.TheVariants as content

@@ -2,3 +2,5 @@ pub mod Prefixes
 pub mod Eachs
 pub mod MarkedLists
 pub mod Shares
+pub mod MoveSums
+pub mod StripeKnows

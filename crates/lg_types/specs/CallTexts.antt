@@ -1,5 +1,5 @@
 -- The canonical text of a write, over which the hash of a key's request is taken. It names no ledger and no key.
-use Rattle.std.specs.Prelude.{ℕ, ℤ, Bool, true, false, List, [], ◌∷◌, Option, codes, decimal}
+use Rattle.std.specs.Prelude.{ℕ, ℤ, Bool, true, false, List, [], ◌∷◌, codes, decimal}
 use Rattle.std.specs.List.{concat}
 use Rattle.lg_base.specs.Texts.{quoted}
 use Rattle.lg_containers.specs.CanonicalTexts.{list_text}

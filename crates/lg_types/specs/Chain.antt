@@ -1,5 +1,5 @@
 -- The chain of a log: each entry's hash is taken over the hash of the entry before and its own text (SHA-256, FIPS 180-4).
-use Rattle.std.specs.Prelude.{ℕ, Bool, if◌then◌else◌, nat_eq, List, [], ◌∷◌, ◌++◌, Option, Some, None}
+use Rattle.std.specs.Prelude.{ℕ, if◌then◌else◌, nat_eq, List, [], ◌∷◌, ◌++◌, Option, Some, None}
 use Rattle.std.specs.Option.{option_map}
 use Rattle.sha2.specs.Sha256.{sha256}
 use Rattle.lg_types.specs.declared.records.Entry.{Entry}

@@ -1,5 +1,5 @@
 -- The canonical texts of the records: no blanks, members in one order, maps in the byte order of their names.
-use Rattle.std.specs.Prelude.{ℕ, ℤ, List, [], ◌∷◌, ◌++◌, Option, Some, None, codes, decimal}
+use Rattle.std.specs.Prelude.{ℕ, List, [], ◌∷◌, codes, decimal}
 use Rattle.std.specs.List.{concat}
 use Rattle.lg_base.specs.Texts.{quoted}
 use Rattle.lg_containers.specs.CanonicalTexts.{list_text, members_text}

@@ -56,6 +56,23 @@ transaction_references (Some t) = map (referred_by t.id) (option_to_list t.refer
 abbrev pub entry_references : Entry → List Referred
 entry_references e = transaction_references (body_transaction e.body)
 
+-- a key with its hash and the id of the entry that has it
+pub record Marking : Type 0 where
+  pub entry : ℕ
+  pub mark : KeyMark
+
+abbrev pub marking : ℕ → KeyMark → Marking
+marking entry mark = record { entry = entry; mark = mark }
+
+abbrev pub entry_markings : Entry → List Marking
+entry_markings e = map (marking e.id) (entry_keys e)
+
+abbrev pub markings : List Entry → List Marking
+markings g = flat_map entry_markings g
+
+abbrev pub is_marking_of : List ℕ → Marking → Bool
+is_marking_of key m = bytes_eq m.mark.key key
+
 -- the first entry that has the key
 abbrev pub is_mark_of : List ℕ → KeyMark → Bool
 is_mark_of key k = bytes_eq k.key key

@@ -1,3 +1,4 @@
+pub mod CallPartTexts
 pub mod CallTexts
 pub mod Chain
 pub mod Changes
@@ -14,3 +15,5 @@ pub mod RecordPartTexts
 pub mod Stripes
 pub mod Tally
 pub mod Trial
+pub mod MoveLaws
+pub mod PartLaws

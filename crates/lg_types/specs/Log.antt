@@ -1,6 +1,6 @@
 -- Event lists, and the log that each ledger has in one.
-use Rattle.std.specs.Prelude.{ℕ, pos, Bool, true, false, if◌then◌else◌, List, [], ◌∷◌, codes}
-use Rattle.std.specs.List.{flat_map, list_any, filter}
+use Rattle.std.specs.Prelude.{ℕ, pos, Bool, false, if◌then◌else◌, List, [], ◌∷◌, codes}
+use Rattle.std.specs.List.{flat_map, list_any}
 use Rattle.std.specs.Str.{bytes_eq}
 use Rattle.lg_containers.specs.NameTable as table
 use Rattle.lg_types.specs.declared.records.Entry.{Entry}

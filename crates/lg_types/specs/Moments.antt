@@ -1,5 +1,5 @@
 -- The range of moments.
-use Rattle.std.specs.Prelude.{◌≡◌, ℕ, ℤ, pos, negsuc, Bool, if◌then◌else◌}
+use Rattle.std.specs.Prelude.{ℤ, pos, negsuc, if◌then◌else◌}
 use Rattle.std.specs.Ordering.{int_cmp, is_lt}
 
 -- 0001-01-01T00:00:00Z and 9999-12-31T23:59:59.999999Z

@@ -1,6 +1,7 @@
 -- The part of an event list that one stripe holds: of each event that has a resource in the stripe, what it says of such resources.
 use Rattle.std.specs.Prelude.{ℕ, ◌+◌, ℤ, Bool, false, not, if◌then◌else◌, nat_eq, List, [], ◌∷◌, ◌++◌, map}
-use Rattle.std.specs.List.{filter, list_any, list_all}
+use Rattle.std.specs.List.{filter, flat_map, list_any, list_all}
+use Rattle.std.specs.Str.{bytes_eq}
 use Rattle.lg_types.specs.declared.classes.Class.{Class}
 use Rattle.lg_types.specs.declared.classes.Class.TheVariants.{Account as AccountClass, Key as KeyClass, Reference as ReferenceClass}
 use Rattle.lg_types.specs.declared.records.Entry.{Entry}
@@ -12,7 +13,7 @@ use Rattle.lg_types.specs.declared.records.Target.TheVariants.{Account, Transact
 use Rattle.lg_types.specs.Stripes.{stripe}
 use Rattle.lg_types.specs.Moves.{Placed, entry_moves}
 use Rattle.lg_types.specs.Changes.{Change, entry_changes}
-use Rattle.lg_types.specs.Known.{Referred, entry_accounts, entry_keys, entry_references}
+use Rattle.lg_types.specs.Known.{Referred, Marking, marking, entry_accounts, entry_keys, entry_references}
 
 -- what calls share: an account, a key or a reference
 pub record Resource : Type 0 where
@@ -108,3 +109,43 @@ part_from place s (event ∷ events) = shares_of s place event ++ part_from (pla
 -- the part of an event list that the stripe holds
 abbrev pub part_of : ℕ → List Event → List Share
 part_of s events = part_from 0 s events
+
+-- ---- what a part knows of a ledger
+
+abbrev pub is_share_of : List ℕ → Share → Bool
+is_share_of ledger share = bytes_eq share.ledger ledger
+
+-- the shares of a ledger
+abbrev pub shares_in : List ℕ → List Share → List Share
+shares_in ledger shares = filter (is_share_of ledger) shares
+
+abbrev pub share_moves : Share → List Placed
+share_moves share = share.moves
+
+abbrev pub share_changes : Share → List Change
+share_changes share = share.changes
+
+abbrev pub share_accounts : Share → List (List ℕ)
+share_accounts share = share.accounts
+
+abbrev pub share_references : Share → List Referred
+share_references share = share.references
+
+abbrev pub share_markings : Share → List Marking
+share_markings share = map (marking share.entry) share.keys
+
+-- the moves, the changes, the accounts, the keys and the references of a ledger that shares hold
+abbrev pub part_moves : List ℕ → List Share → List Placed
+part_moves ledger shares = flat_map share_moves (shares_in ledger shares)
+
+abbrev pub part_changes : List ℕ → List Share → List Change
+part_changes ledger shares = flat_map share_changes (shares_in ledger shares)
+
+abbrev pub part_accounts : List ℕ → List Share → List (List ℕ)
+part_accounts ledger shares = flat_map share_accounts (shares_in ledger shares)
+
+abbrev pub part_markings : List ℕ → List Share → List Marking
+part_markings ledger shares = flat_map share_markings (shares_in ledger shares)
+
+abbrev pub part_references : List ℕ → List Share → List Referred
+part_references ledger shares = flat_map share_references (shares_in ledger shares)

@@ -1,8 +1,7 @@
 -- The trial of postings: which of them lacks funds or passes the limit, over the totals of the moves before it.
-use Rattle.std.specs.Prelude.{ℕ, ◌+◌, ◌^◌, ℤ, pos, Bool, true, false, not, ◌&&◌, ◌||◌, if◌then◌else◌, nat_le, nat_lt, int_lt, List, [], ◌∷◌, ◌++◌, map, reverse, Option, Some, None, codes}
+use Rattle.std.specs.Prelude.{ℕ, ◌+◌, ◌^◌, ℤ, pos, Bool, not, ◌&&◌, ◌||◌, if◌then◌else◌, nat_le, nat_lt, int_lt, List, [], ◌∷◌, ◌++◌, map, reverse, Option, Some, None, codes}
 use Rattle.std.specs.List.{flat_map}
 use Rattle.std.specs.Str.{bytes_eq}
-use Rattle.lg_base.specs.declared.amounts.Volumes.{Volumes}
 use Rattle.lg_base.specs.Volumes.{balance_of}
 use Rattle.lg_types.specs.declared.records.Posting.{Posting}
 use Rattle.lg_types.specs.declared.records.Entry.{Entry}

@@ -6,9 +6,7 @@ use crate::queries::{Query, Read};
 use crate::records::{Entry, Target};
 use crate::refusals::{ImportCause, Refusal};
 use lg_base::NoMemory;
-use lg_containers::{
-    AccountMeta, Bucket, Duplicate, Key, LedgerName, List, Meta, Reference, Text,
-};
+use lg_containers::{AccountMeta, Bucket, Duplicate, Key, LedgerName, List, Meta, Reference, Text};
 use std::alloc::Global;
 
 /// A call that appends one entry to a ledger's log, unless it is refused.
@@ -31,9 +29,15 @@ pub enum Write {
         /// Whether the reverting transaction has the effective date of the reverted one.
         at_effective_date: bool,
     },
-    SetMeta { target: Target, metadata: Meta },
+    SetMeta {
+        target: Target,
+        metadata: Meta,
+    },
     /// Takes one name out.
-    DropMeta { target: Target, name: Text },
+    DropMeta {
+        target: Target,
+        name: Text,
+    },
 }
 
 /// What an element of a list asks: a write, or what can't be read, with its refusal.
@@ -82,9 +86,17 @@ pub enum Call {
         /// Whether the list goes on after an element that fails.
         go_on: bool,
     },
-    Import { ledger: LedgerName, batch: Batch },
-    Ledgers { query: Query },
-    Read { ledger: LedgerName, read: Read },
+    Import {
+        ledger: LedgerName,
+        batch: Batch,
+    },
+    Ledgers {
+        query: Query,
+    },
+    Read {
+        ledger: LedgerName,
+        read: Read,
+    },
 }
 
 impl Duplicate for Write {

@@ -1,6 +1,8 @@
 //! The records of a ledger, and the definitions that every contract above cites.
 #![tactic(auto)]
 
+mod call_parts;
+mod call_texts;
 mod calls;
 mod changes;
 mod classes;
@@ -9,6 +11,7 @@ mod elements;
 mod entry_texts;
 mod filters;
 mod forms;
+pub mod laws;
 mod marks;
 mod moves;
 mod part_texts;
@@ -20,6 +23,8 @@ mod record_texts;
 mod records;
 mod refusals;
 
+pub use call_parts::CallPart;
+pub use call_texts::call_text;
 pub use calls::{Batch, Call, Element, ElementWrite, Write};
 pub use changes::MetaChange;
 pub use classes::Class;
@@ -34,7 +39,7 @@ pub use lg_containers::{
 };
 pub use marks::{Mark, Marked};
 pub use moves::Move;
-pub use part_texts::{FIRST_MOMENT, LAST_MOMENT, bring};
+pub use part_texts::bring;
 pub use parts::Part;
 pub use postings::Postings;
 pub use queries::{Expand, Query, Read, Span};
@@ -44,3 +49,6 @@ pub use refusals::{FaultKind, ImportCause, Reason, Refusal};
 
 /// The entries of a log.
 pub type Entries = List<Entry>;
+
+#[cfg(test)]
+mod tests;

@@ -10,13 +10,7 @@ use base64::engine::general_purpose::STANDARD;
 use itoa::Buffer;
 use lg_base::{Feed, Stop};
 use lg_containers::Canonical;
-use lg_time::print_moment;
-
-/// The first moment, 0001-01-01T00:00:00Z, in microseconds since 1970-01-01T00:00:00Z.
-pub const FIRST_MOMENT: i64 = -62135596800000000;
-
-/// The last moment, 9999-12-31T23:59:59.999999Z, in microseconds since 1970-01-01T00:00:00Z.
-pub const LAST_MOMENT: i64 = 253402300799999999;
+use lg_time::{FIRST_MOMENT, LAST_MOMENT, print_moment};
 
 /// The moment, and outside the range of moments its nearer end.
 pub fn bring(moment: &i64) -> i64

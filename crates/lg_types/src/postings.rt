@@ -1,6 +1,6 @@
 //! The postings of a transaction.
 
-ghost use Rattle.std.specs.Prelude.{◌≡◌, ◌<◌, ◌++◌, [], ◌∷◌, length, OnOk, OnErr, IfOk, slice_get};
+ghost use Rattle.std.specs.Prelude.{◌≡◌, ◌<◌, ◌++◌, [], ◌∷◌, length, OnOk, OnErr, IfOk, MatchOption, slice_get};
 ghost use Rattle.std.specs.Option.{option_copied};
 
 use crate::records::Posting;
@@ -34,6 +34,17 @@ impl Postings {
         let mut items = Vec::new(alloc);
         items.push(first)?;
         Ok(Postings { items })
+    }
+
+    /// The postings of the vector, and none exactly where it has none.
+    pub fn from_vec(items: Vec<Posting>) -> Option<Postings>
+        ensures { MatchOption result (items.items ≡ []) (λ p. p ≡ items.items) }
+    {
+        if items.is_empty() {
+            None
+        } else {
+            Some(Postings { items })
+        }
     }
 
     /// How many postings there are.

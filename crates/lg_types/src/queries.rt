@@ -54,10 +54,18 @@ pub enum Read {
         expand: Expand,
         pit: Option<i64>,
     },
-    Accounts { query: Query },
-    Transactions { query: Query },
-    Logs { query: Query },
-    Volumes { query: Query },
+    Accounts {
+        query: Query,
+    },
+    Transactions {
+        query: Query,
+    },
+    Logs {
+        query: Query,
+    },
+    Volumes {
+        query: Query,
+    },
     /// The balance of each asset over all accounts that pass.
     Aggregate {
         filter: Filter,

@@ -64,19 +64,35 @@ pub enum Refusal {
     /// The route doesn't take the method.
     Method,
     /// The line is no JSON text.
-    LineJson { fault: FaultKind, place: u64 },
+    LineJson {
+        fault: FaultKind,
+        place: u64,
+    },
     /// A member of the line can't be read. Of a line that is no object the member is empty.
-    LineMember { member: Text, reason: Reason },
+    LineMember {
+        member: Text,
+        reason: Reason,
+    },
     /// The body is no JSON text.
-    BodyJson { fault: FaultKind, place: u64 },
+    BodyJson {
+        fault: FaultKind,
+        place: u64,
+    },
     /// A member of the body, or a name of the path, can't be read.
-    Member { path: Text, reason: Reason },
+    Member {
+        path: Text,
+        reason: Reason,
+    },
     /// A parameter of the query can't be read.
-    Parameter { name: Text },
+    Parameter {
+        name: Text,
+    },
     /// The token of a page can't be read.
     Token,
     /// The filter can't be read: the path of what is bad in it.
-    BadFilter { path: Text },
+    BadFilter {
+        path: Text,
+    },
     /// The key was used for another request.
     KeyInput {
         key: Key,
@@ -88,17 +104,30 @@ pub enum Refusal {
     /// The body has no postings.
     NoPostings,
     /// The list has more elements than are allowed.
-    BulkSize { elements: u64 },
+    BulkSize {
+        elements: u64,
+    },
     /// No ledger has the name.
-    NoLedger { name: LedgerName },
+    NoLedger {
+        name: LedgerName,
+    },
     /// A ledger has the name already.
-    LedgerThere { name: LedgerName },
+    LedgerThere {
+        name: LedgerName,
+    },
     /// The transaction isn't there.
-    NoTransaction { id: u64 },
+    NoTransaction {
+        id: u64,
+    },
     /// The account isn't there.
-    NoAccount { address: Address },
+    NoAccount {
+        address: Address,
+    },
     /// The transaction is reverted by another.
-    Already { id: u64, by: u64 },
+    Already {
+        id: u64,
+        by: u64,
+    },
     /// The source of a posting lacks funds: it has the balance and needs the amount.
     Lack {
         posting: u64,
@@ -114,13 +143,23 @@ pub enum Refusal {
         balance: i128,
     },
     /// With the posting an input or an output passes the limit.
-    Limit { posting: u64 },
+    Limit {
+        posting: u64,
+    },
     /// A sum of inputs or of outputs of the asset passes the limit.
-    SumLimit { asset: Asset },
+    SumLimit {
+        asset: Asset,
+    },
     /// The reference is used by a transaction.
-    Used { reference: Reference, id: u64 },
+    Used {
+        reference: Reference,
+        id: u64,
+    },
     /// The line of an import is bad; line 0 stands for the whole.
-    Import { line: u64, cause: ImportCause },
+    Import {
+        line: u64,
+        cause: ImportCause,
+    },
     /// What is asked is not built.
     NotBuilt,
     /// Memory is wanting.

@@ -1,5 +1,5 @@
 -- What a list of writes appends may follow the log.
-use Rattle.std.proofs.Common.{◌≡◌, ℕ, ◌+◌, ℤ, Bool, true, false, List, [], ◌∷◌, ◌++◌, Option, Some, None, refl, sym, ap, subst, ◌∙◌}
+use Rattle.std.proofs.Common.{ℕ, ◌+◌, ℤ, Bool, true, false, List, [], ◌∷◌, ◌++◌, Option, Some, None}
 use Rattle.std.specs.Prelude.{if◌then◌else◌}
 use Rattle.lg_types.specs.declared.calls.Element.{Element}
 use Rattle.lg_types.specs.declared.calls.ElementWrite.{ElementWrite}
@@ -8,7 +8,7 @@ use Rattle.lg_types.specs.declared.records.Entry.{Entry}
 use Rattle.lg_views.specs.declared.decided.Written.{Written}
 use Rattle.lg_views.specs.declared.decided.Written.TheVariants.{Refuses, Finds, Appends}
 use Rattle.lg_views.specs.declared.replies.BulkItem.{BulkItem}
-use Rattle.lg_views.specs.Import.{fault, FollowsFrom}
+use Rattle.lg_views.specs.Import.{FollowsFrom}
 use Rattle.lg_views.specs.Bulk.{Batched, batched, batch_step, nothing_left, element_written, try_write, atomic_answer, bulk_answer}
 use Rattle.lg_views.proofs.Granted.{Fits, written-fits}
 

@@ -1,16 +1,15 @@
 -- Entries that may follow a log.
-use Rattle.std.proofs.Common.{◌≡◌, ℕ, ℤ, pos, negsuc, arith, Bool, true, false, not, List, [], ◌∷◌, ◌++◌, Option, Some, None, refl, sym, ap, subst, ◌∙◌, append_assoc}
-use Rattle.std.specs.Prelude.{int_lt, is_some, nat_eq, if◌then◌else◌}
+use Rattle.std.proofs.Common.{◌≡◌, ℤ, pos, negsuc, arith, Bool, true, false, not, List, [], ◌∷◌, ◌++◌, Option, Some, None, refl, sym, ap, subst, ◌∙◌, append_assoc}
+use Rattle.std.specs.Prelude.{int_lt, if◌then◌else◌}
 use Rattle.std.specs.Str.{bytes_eq}
 use Rattle.std.proofs.lemmas.List.{append-nil}
 use Rattle.std.proofs.lemmas.Bool.{le-ltb}
-use Rattle.lg_types.specs.declared.forms.EntryForm.TheVariants.{Chained}
 use Rattle.lg_types.specs.declared.records.Entry.{Entry}
 use Rattle.lg_types.specs.declared.records.EntryBody.{EntryBody}
 use Rattle.lg_types.specs.declared.records.KeyMark.{KeyMark}
 use Rattle.lg_types.specs.Lists.{last_of}
 use Rattle.lg_types.specs.Moments.{brought}
-use Rattle.lg_types.specs.Chain.{line_hash, own_hash, head}
+use Rattle.lg_types.specs.Chain.{line_hash, own_hash}
 use Rattle.lg_types.specs.Known.{next_entry, date_after, date}
 use Rattle.lg_types.specs.Moves.{body_transaction}
 use Rattle.lg_views.specs.Import.{causes, fault, FollowsFrom, is_before, has_used_key, is_referred, is_misnumbered, reverts_wrong, targets_wrong, is_over_limit}

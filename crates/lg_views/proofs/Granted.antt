@@ -1,16 +1,15 @@
 -- What a ledger grants fits its log.
-use Rattle.std.proofs.Common.{◌≡◌, ℕ, ◌+◌, ℤ, Bool, true, false, not, cond, ◌||◌, List, [], ◌∷◌, ◌++◌, Option, Some, None, refl, sym, ap, subst, ◌∙◌}
-use Rattle.std.specs.Prelude.{is_some, is_none, nat_eq, if◌then◌else◌}
+use Rattle.std.proofs.Common.{◌≡◌, ℕ, ◌+◌, ℤ, Bool, true, false, cond, List, [], ◌∷◌, ◌++◌, Option, Some, None, refl, ap, ◌∙◌}
+use Rattle.std.specs.Prelude.{is_some, is_none, if◌then◌else◌}
 use Rattle.std.specs.Option.{option_map}
 use Rattle.std.specs.Str.{bytes_eq}
 use Rattle.lg_types.specs.declared.calls.Write.{Write}
 use Rattle.lg_types.specs.declared.calls.Write.TheVariants.{Create, Revert, SetMeta, DropMeta}
 use Rattle.lg_types.specs.declared.records.Entry.{Entry}
 use Rattle.lg_types.specs.declared.records.EntryBody.{EntryBody}
-use Rattle.lg_types.specs.declared.records.EntryBody.TheVariants.{NewTransaction, SetMetadata, Reverted, DeleteMetadata}
+use Rattle.lg_types.specs.declared.records.EntryBody.TheVariants.{SetMetadata, DeleteMetadata}
 use Rattle.lg_types.specs.declared.records.KeyMark.{KeyMark}
 use Rattle.lg_types.specs.declared.records.Posting.{Posting}
-use Rattle.lg_types.specs.declared.records.Target.{Target}
 use Rattle.lg_types.specs.declared.records.Target.TheVariants.{Account, Transaction as TransactionOf}
 use Rattle.lg_types.specs.declared.refusals.Refusal.{Refusal}
 use Rattle.lg_types.specs.declared.refusals.Refusal.TheVariants.{Used, Limit, KeyInput}
@@ -24,7 +23,7 @@ use Rattle.lg_views.specs.declared.decided.Decided.TheVariants.{Denied, Granted}
 use Rattle.lg_views.specs.declared.decided.Written.{Written}
 use Rattle.lg_views.specs.declared.decided.Written.TheVariants.{Refuses, Finds, Appends}
 use Rattle.lg_views.specs.Import.{fault, has_used_key, has_used_reference}
-use Rattle.lg_views.specs.Writes.{decided, granted_unless, is_used, revert_decided, revert_body, if_transaction, if_target, marked, appended_if, found_if, found, written_by, written}
+use Rattle.lg_views.specs.Writes.{decided, granted_unless, is_used, revert_decided, revert_body, if_transaction, marked, appended_if, found_if, found, written_by, written}
 use Rattle.lg_views.proofs.Tests.{not_same_number, none_there, some_there, both_false}
 use Rattle.lg_views.proofs.Follows.{BodyFits, entry-fits}
 

@@ -1,21 +1,18 @@
 -- Every log of a legal history is importable, and a history of one thread is legal.
-use Rattle.std.proofs.Common.{◌≡◌, ◌⊎◌, inl, inr, ℕ, zero, suc, ◌+◌, ◌-◌, ◌<◌, ◌≤◌, ℤ, Bool, true, false, cond, List, [], ◌∷◌, ◌++◌, length, take, drop, min, refl, sym, ap, subst, ◌∙◌, arith}
+use Rattle.std.proofs.Common.{◌≡◌, ◌⊎◌, inl, inr, ℕ, zero, suc, ◌+◌, ◌-◌, ◌<◌, ◌≤◌, Bool, true, false, List, [], ◌∷◌, ◌++◌, length, take, drop, refl, sym, ap, subst, ◌∙◌, arith}
 use Rattle.std.specs.Prelude.{nat_le, nat_lt, if◌then◌else◌}
 use Rattle.std.specs.List.{AllZip}
 use Rattle.std.proofs.Math.Seq.{take-append-add, take-length}
 use Rattle.std.proofs.lemmas.List.{take-append-drop, length-take-le, append-nil}
 use Rattle.std.proofs.lemmas.Bool.Decides.{nat_tests}
-use Rattle.lg_types.specs.declared.records.Entry.{Entry}
 use Rattle.lg_types.specs.declared.records.Event.{Event}
-use Rattle.lg_types.specs.Lists.{IsPrefix, Each, ZipPairs}
+use Rattle.lg_types.specs.Lists.{Each, ZipPairs}
 use Rattle.lg_types.specs.Log.{log, first_events}
 use Rattle.lg_types.proofs.Eachs.{each-map}
 use Rattle.lg_views.specs.declared.answers.Answer.{Answer}
 use Rattle.lg_views.specs.declared.lines.ScriptLine.{ScriptLine}
-use Rattle.lg_views.specs.declared.replies.Reply.{Reply}
-use Rattle.lg_views.specs.Import.{FollowsFrom, IsImportable}
-use Rattle.lg_views.specs.Outcome.{outcome}
-use Rattle.lg_views.specs.History.{Answered, Legal, AloneFrom, Alone, end_of, owned, owners, has_place, InTurn, AfterPhase, Apart, IsAnswerTo}
+use Rattle.lg_views.specs.Import.{FollowsFrom}
+use Rattle.lg_views.specs.History.{Answered, Legal, AloneFrom, end_of, owned, owners, has_place, InTurn, AfterPhase, Apart, IsAnswerTo}
 use Rattle.lg_views.specs.Laws.{IsGoodCall, IsGoodLine, AllImportable, LegalLogsImportable, AloneIsLegal}
 use Rattle.lg_views.proofs.Follows.{follows-front}
 use Rattle.lg_views.proofs.Outcomes.{log-append, outcomes_keep_logs}

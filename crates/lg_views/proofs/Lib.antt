@@ -2,6 +2,10 @@ pub mod Batches
 pub mod Follows
 pub mod Granted
 pub mod Histories
+pub mod Imported
+pub mod Kept
 pub mod Outcomes
 pub mod ReadBack
+pub mod Refused
 pub mod Tests
+pub mod Walks

@@ -1,10 +1,9 @@
 -- Every outcome keeps every log importable.
-use Rattle.std.proofs.Common.{◌≡◌, ℕ, ℤ, Bool, true, false, cond, List, [], ◌∷◌, ◌++◌, map, Option, Some, None, refl, sym, ap, subst, ◌∙◌}
+use Rattle.std.proofs.Common.{◌≡◌, ℕ, ℤ, Bool, true, false, List, [], ◌∷◌, ◌++◌, map, Option, Some, None, refl, sym, ap, subst, ◌∙◌}
 use Rattle.std.specs.Prelude.{if◌then◌else◌}
-use Rattle.std.specs.List.{flat_map, find}
+use Rattle.std.specs.List.{find}
 use Rattle.std.specs.Str.{bytes_eq}
 use Rattle.std.proofs.lemmas.Grind.{flat_map-append}
-use Rattle.std.proofs.lemmas.List.{append-nil}
 use Rattle.lg_types.specs.declared.calls.Batch.{Batch}
 use Rattle.lg_types.specs.declared.calls.Batch.TheVariants.{Ready, Bad}
 use Rattle.lg_types.specs.declared.calls.Call.{Call}
@@ -19,9 +18,9 @@ use Rattle.lg_types.specs.Log.{log, logged, is_there, ledgers}
 use Rattle.lg_views.specs.declared.decided.Written.{Written}
 use Rattle.lg_views.specs.declared.decided.Written.TheVariants.{Refuses, Finds, Appends}
 use Rattle.lg_views.specs.declared.replies.Reply.{Reply}
-use Rattle.lg_views.specs.Import.{fault, FollowsFrom, IsImportable, import_answer}
+use Rattle.lg_views.specs.Import.{FollowsFrom, import_answer}
 use Rattle.lg_views.specs.Writes.{written, write_answer}
-use Rattle.lg_views.specs.Bulk.{batched, bulk_answer}
+use Rattle.lg_views.specs.Bulk.{batched}
 use Rattle.lg_views.specs.Outcome.{Task, ToWrite, ToBulk, ToImport, ToRead, answer_on, on_ledger, no_ledger, in_ledger, made_ledger, make_answer, ledger_record, read_answer, is_named, outcome}
 use Rattle.lg_views.specs.Laws.{IsGoodBatch, IsGoodTask, IsGoodCall, AllImportable, OutcomesKeepLogs}
 use Rattle.lg_views.proofs.Tests.{bytes_same}

@@ -1,19 +1,18 @@
 -- The lines of an importable log read back as the log, and what lines come to is importable.
-use Rattle.std.proofs.Common.{◌≡◌, ℕ, ◌+◌, Bool, true, false, not, ◌&&◌, List, [], ◌∷◌, ◌++◌, Option, Some, None, refl, sym, ap, subst, ◌∙◌, append_assoc}
+use Rattle.std.proofs.Common.{◌≡◌, ℕ, ◌+◌, Bool, true, false, not, ◌&&◌, List, [], ◌∷◌, ◌++◌, Option, Some, None, refl, sym, ap, ◌∙◌, append_assoc}
 use Rattle.std.specs.Option.{option_map}
-use Rattle.std.specs.Prelude.{nat_eq, if◌then◌else◌}
+use Rattle.std.specs.Prelude.{nat_eq}
 use Rattle.std.specs.List.{last_or}
 use Rattle.std.specs.Str.{bytes_eq}
 use Rattle.std.proofs.lemmas.List.{append-nil}
 use Rattle.std.proofs.lemmas.Bool.{eqb-true}
-use Rattle.lg_types.specs.declared.calls.Batch.{Batch}
-use Rattle.lg_types.specs.declared.calls.Batch.TheVariants.{Ready, Bad}
+use Rattle.lg_types.specs.declared.calls.Batch.TheVariants.{Ready}
 use Rattle.lg_types.specs.declared.records.Entry.{Entry}
 use Rattle.lg_types.specs.Lists.{last_of}
-use Rattle.lg_types.specs.Chain.{line_hash, own_hash, head, entry_hash}
-use Rattle.lg_views.specs.Import.{Reading, Read, first_reading, causes, fault, first_cause, line_causes, line_fault, own_line_hash, chained, read_on, first_form, bad_or, checked_from, checked_lines, FollowsFrom, IsImportable, is_other_form}
+use Rattle.lg_types.specs.Chain.{own_hash, head, entry_hash}
+use Rattle.lg_views.specs.Import.{Reading, Read, causes, line_causes, line_fault, chained, read_on, first_form, bad_or, checked_from, FollowsFrom, is_other_form}
 use Rattle.lg_views.specs.Laws.{lines_from, ReadsBack}
-use Rattle.lg_views.proofs.Tests.{bytes_same, not_false, not_same_bytes, AllFalse, no_cause, all_false}
+use Rattle.lg_views.proofs.Tests.{bytes_same, not_false, AllFalse, no_cause, all_false}
 
 last-or_snoc : {A : Type 0} (o : Option A) (xs : List A) (x : A) → last_or o (xs ++ x ∷ []) ≡ Some x
 last-or_snoc o [] x = refl

@@ -1,19 +1,17 @@
 -- Lists of writes: the elements in order, with one moment, each over the log that the earlier ones leave.
-use Rattle.std.specs.Prelude.{ℕ, ◌+◌, ℤ, Bool, true, false, if◌then◌else◌, List, [], ◌∷◌, ◌++◌, Option, Some, None}
+use Rattle.std.specs.Prelude.{ℕ, ◌+◌, ℤ, Bool, if◌then◌else◌, List, [], ◌∷◌, ◌++◌, Option, Some, None}
 use Rattle.lg_types.specs.declared.calls.Write.{Write}
 use Rattle.lg_types.specs.declared.calls.Write.TheVariants.{Create, Revert, SetMeta, DropMeta}
 use Rattle.lg_types.specs.declared.calls.Element.{Element}
 use Rattle.lg_types.specs.declared.calls.ElementWrite.{ElementWrite}
 use Rattle.lg_types.specs.declared.calls.ElementWrite.TheVariants.{Good as GoodWrite, Bad}
 use Rattle.lg_types.specs.declared.records.Entry.{Entry}
-use Rattle.lg_types.specs.declared.refusals.Refusal.{Refusal}
 use Rattle.lg_views.specs.declared.decided.Written.{Written}
 use Rattle.lg_views.specs.declared.decided.Written.TheVariants.{Refuses, Finds, Appends}
 use Rattle.lg_views.specs.declared.replies.Action.{Action}
 use Rattle.lg_views.specs.declared.replies.Action.TheVariants.{CreateTransaction, AddMetadata, RevertTransaction, DeleteMetadata}
 use Rattle.lg_views.specs.declared.replies.BulkItem.{BulkItem}
 use Rattle.lg_views.specs.declared.replies.BulkItem.TheVariants.{Good, Failed}
-use Rattle.lg_views.specs.declared.replies.Content.{Content}
 use Rattle.lg_views.specs.declared.replies.Content.TheVariants.{Bulk}
 use Rattle.lg_views.specs.declared.replies.Reply.{Reply}
 use Rattle.lg_views.specs.Replies.{plain, shown_transaction}

@@ -1,5 +1,5 @@
 -- The laws of outcomes and of histories.
-use Rattle.std.specs.Prelude.{◌≡◌, ℕ, ◌+◌, ℤ, Bool, List, [], ◌∷◌, ◌++◌}
+use Rattle.std.specs.Prelude.{◌≡◌, ℕ, ◌+◌, ℤ, Bool, true, List, [], ◌∷◌, ◌++◌}
 use Rattle.lg_types.specs.declared.calls.Batch.{Batch}
 use Rattle.lg_types.specs.declared.calls.Batch.TheVariants.{Ready, Bad}
 use Rattle.lg_types.specs.declared.calls.Call.{Call}
@@ -7,14 +7,14 @@ use Rattle.lg_types.specs.declared.calls.Call.TheVariants as call
 use Rattle.lg_types.specs.declared.records.Entry.{Entry}
 use Rattle.lg_types.specs.declared.records.Event.{Event}
 use Rattle.lg_types.specs.Lists.{Each}
-use Rattle.lg_types.specs.Log.{log}
+use Rattle.lg_types.specs.Log.{log, is_there}
 use Rattle.lg_views.specs.declared.answers.Answer.{Answer}
 use Rattle.lg_views.specs.declared.lines.ScriptLine.{ScriptLine}
 use Rattle.lg_views.specs.declared.replies.Content.{Content}
 use Rattle.lg_views.specs.declared.replies.Content.TheVariants as content
 use Rattle.lg_views.specs.History.{Legal, Alone}
-use Rattle.lg_views.specs.Import.{IsImportable, NumberedLine, Read, checked_lines, import_answer}
-use Rattle.lg_views.specs.Outcome.{Task, ToWrite, ToBulk, ToImport, ToRead, outcome}
+use Rattle.lg_views.specs.Import.{IsImportable, NumberedLine, Read, checked_lines}
+use Rattle.lg_views.specs.Outcome.{Task, ToWrite, ToBulk, ToImport, ToRead, in_ledger, outcome, AnswerAlike}
 
 -- the entries of a batch come from lines that were checked, so they are importable
 abbrev pub IsGoodBatch : Batch → Type 0
@@ -68,9 +68,14 @@ ReadsBack = (recompute : Bool) (g : List Entry) → IsImportable g → checked_l
 abbrev pub ChecksImportable : Type 0
 ChecksImportable = (recompute : Bool) (ls : List NumberedLine) (g : List Entry) → checked_lines recompute ls ≡ Ready g → IsImportable g
 
--- an import of a ledger's log into a ledger without entries leaves there a log that answers alike
-abbrev pub ImportAnswersAlike : Type 0
-ImportAnswersAlike = (g : List Entry) → (import_answer [] (Ready g)).1 ≡ g
+-- the log of one ledger that is imported into another ledger without entries answers there alike
+abbrev pub ImportedAnswersAlike : Type 0
+ImportedAnswersAlike = (events : List Event) (ledger copy : List ℕ) (now : ℤ) → is_there events copy ≡ true → log events copy ≡ []
+    → AnswerAlike (log (events ++ (outcome events (call.Import copy (Ready (log events ledger))) now).1) copy) (log events ledger)
+
+-- what is asked of a ledger is answered by its own log alone
+abbrev pub AnsweredByOneLog : Type 0
+AnsweredByOneLog = (task : Task) (now : ℤ) (ledger : List ℕ) (events more : List Event) → is_there more ledger ≡ is_there events ledger → log more ledger ≡ log events ledger → in_ledger more ledger task now ≡ in_ledger events ledger task now
 
 -- a refused call appends nothing
 abbrev pub IsRefusal : Content → Type 0

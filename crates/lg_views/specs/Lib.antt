@@ -4,6 +4,7 @@ pub mod History
 pub mod Import
 pub mod Laws
 pub mod Outcome
+pub mod PageLaws
 pub mod Pages
 pub mod Pairs
 pub mod Reads

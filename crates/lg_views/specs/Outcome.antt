@@ -1,5 +1,5 @@
 -- What becomes of a call: a reply, and the events that it appends.
-use Rattle.std.specs.Prelude.{◌≡◌, ℕ, ℤ, Bool, true, false, if◌then◌else◌, List, [], ◌∷◌, map, Option, Some, None}
+use Rattle.std.specs.Prelude.{◌≡◌, ℕ, ℤ, Bool, if◌then◌else◌, List, [], ◌∷◌, map, Option, Some, None}
 use Rattle.std.specs.List.{find}
 use Rattle.std.specs.Str.{bytes_eq}
 use Rattle.lg_types.specs.declared.calls.Batch.{Batch}
@@ -17,7 +17,6 @@ use Rattle.lg_types.specs.declared.refusals.Refusal.TheVariants.{NoLedger, Ledge
 use Rattle.lg_types.specs.Changes.{MetaOf}
 use Rattle.lg_types.specs.Log.{log, is_there, ledgers}
 use Rattle.lg_types.specs.Moments.{brought}
-use Rattle.lg_views.specs.declared.replies.Content.{Content}
 use Rattle.lg_views.specs.declared.replies.Content.TheVariants as content
 use Rattle.lg_views.specs.declared.replies.Reply.{Reply}
 use Rattle.lg_views.specs.Replies.{plain, refused}

@@ -1,7 +1,7 @@
 -- What reads answer: whole lists at a date, filtered, in their order, and pages of them.
-use Rattle.std.specs.Prelude.{ℕ, ◌+◌, ℤ, pos, Bool, true, false, not, ◌&&◌, ◌||◌, nat_eq, nat_lt, if◌then◌else◌, List, [], ◌∷◌, ◌++◌, map, reverse, length, take, Option, Some, None, is_some}
+use Rattle.std.specs.Prelude.{ℕ, ℤ, Bool, false, ◌&&◌, ◌||◌, nat_eq, nat_lt, if◌then◌else◌, List, [], ◌∷◌, ◌++◌, map, reverse, length, take, Option, Some, None, is_some}
 use Rattle.std.specs.Ordering.{is_lt, is_eq}
-use Rattle.std.specs.List.{filter, find, flat_map, list_any, join_with_byte, enumerate_from}
+use Rattle.std.specs.List.{filter, flat_map, list_any, join_with_byte, enumerate_from}
 use Rattle.std.specs.Str.{bytes_eq}
 use Rattle.lg_base.specs.declared.amounts.Volumes.{Volumes}
 use Rattle.lg_base.specs.Volumes.{balance_of}
@@ -16,16 +16,14 @@ use Rattle.lg_types.specs.declared.queries.Expand.{Expand}
 use Rattle.lg_types.specs.declared.queries.Query.{Query}
 use Rattle.lg_types.specs.declared.queries.Read.{Read}
 use Rattle.lg_types.specs.declared.queries.Read.TheVariants as read
-use Rattle.lg_types.specs.declared.queries.Span.{Span}
 use Rattle.lg_types.specs.declared.records.Entry.{Entry}
 use Rattle.lg_types.specs.declared.records.Event.{Event}
 use Rattle.lg_types.specs.declared.records.Event.TheVariants.{Made, Logged}
 use Rattle.lg_types.specs.declared.records.LedgerInfo.{LedgerInfo}
 use Rattle.lg_types.specs.declared.records.Target.TheVariants.{Account, Transaction as TransactionOf}
-use Rattle.lg_types.specs.declared.refusals.Refusal.{Refusal}
 use Rattle.lg_types.specs.declared.refusals.Refusal.TheVariants.{NoTransaction, NoAccount, SumLimit}
 use Rattle.lg_types.specs.Changes.{MetaOf, metadata_at}
-use Rattle.lg_types.specs.Known.{Dated, accounts, entry_accounts, transactions, find_transaction}
+use Rattle.lg_types.specs.Known.{Dated, accounts, transactions, find_transaction}
 use Rattle.lg_types.specs.Moves.{Placed, moves, volumes, total}
 use Rattle.lg_types.specs.Tally.{is_to, is_between}
 use Rattle.lg_types.specs.Trial.{passes_limit}
@@ -37,8 +35,8 @@ use Rattle.lg_views.specs.declared.views.VolumeItem.{VolumeItem}
 use Rattle.lg_views.specs.declared.views.BalanceItem.{BalanceItem}
 use Rattle.lg_views.specs.Filters.{passes, account_atom, transaction_atom, entry_atom, ledger_atom, has_name, no_name, segments}
 use Rattle.lg_views.specs.Pages.{page}
-use Rattle.lg_views.specs.Pairs.{AssetMap, AccountMap, pair_of, pair_map, asset_map, in_byte_order}
-use Rattle.lg_views.specs.Views.{account_view, transaction_view, undone_by, inserted_by, effective_by, asset_of}
+use Rattle.lg_views.specs.Pairs.{AssetMap, AccountMap, pair_of, pair_map, in_byte_order}
+use Rattle.lg_views.specs.Views.{account_view, transaction_view, undone_by, inserted_by}
 
 -- ---- accounts
 

@@ -1,5 +1,5 @@
 -- Replies, in short.
-use Rattle.std.specs.Prelude.{ℕ, Bool, true, false, List, Option, Some, None}
+use Rattle.std.specs.Prelude.{true, false, Option, Some, None}
 use Rattle.lg_types.specs.declared.refusals.Refusal.{Refusal}
 use Rattle.lg_views.specs.declared.replies.Reply.{Reply}
 use Rattle.lg_views.specs.declared.replies.Content.{Content}

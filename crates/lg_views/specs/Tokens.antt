@@ -17,7 +17,6 @@ use Rattle.lg_types.specs.declared.filters.Field.TheVariants as field
 use Rattle.lg_types.specs.declared.filters.Value.{Value}
 use Rattle.lg_types.specs.declared.filters.Value.TheVariants as value
 use Rattle.lg_types.specs.declared.filters.Filter.{Filter, All, Compare, Has, Both', Either', Not', Row_of-Filter, end_of-Filter, more_of-Filter}
-use Rattle.lg_types.specs.declared.queries.Expand.{Expand}
 use Rattle.lg_types.specs.declared.queries.Query.{Query}
 
 abbrev pub kind_name : ListKind → List ℕ

@@ -1,9 +1,8 @@
 -- What replies show of transactions and accounts.
-use Rattle.std.specs.Prelude.{ℕ, ℤ, Bool, true, false, ◌&&◌, if◌then◌else◌, List, [], ◌∷◌, map, Option, Some, None, is_some}
+use Rattle.std.specs.Prelude.{ℕ, ℤ, Bool, false, ◌&&◌, if◌then◌else◌, List, map, Option, Some, None, is_some}
 use Rattle.std.specs.Option.{option_map}
 use Rattle.std.specs.List.{filter, find}
 use Rattle.std.specs.Str.{bytes_eq}
-use Rattle.lg_base.specs.declared.amounts.Volumes.{Volumes}
 use Rattle.lg_types.specs.declared.moves.Move.{Move}
 use Rattle.lg_types.specs.declared.queries.Expand.{Expand}
 use Rattle.lg_types.specs.declared.records.Entry.{Entry}

@@ -1,5 +1,5 @@
 -- What a write comes to: the refusals in their order, or the entry that it appends.
-use Rattle.std.specs.Prelude.{ℕ, ℤ, Bool, true, false, List, [], ◌∷◌, ◌++◌, map, if◌then◌else◌, take, Option, Some, None, is_some, codes, decimal}
+use Rattle.std.specs.Prelude.{ℕ, ℤ, Bool, List, [], ◌∷◌, ◌++◌, if◌then◌else◌, take, Option, Some, None, codes, decimal}
 use Rattle.std.specs.Option.{option_map, unwrap_or}
 use Rattle.std.specs.Str.{bytes_eq}
 use Rattle.lg_containers.specs.NameTable as table
@@ -15,7 +15,7 @@ use Rattle.lg_types.specs.declared.records.Target.{Target}
 use Rattle.lg_types.specs.declared.records.Target.TheVariants.{Account, Transaction as TransactionOf}
 use Rattle.lg_types.specs.declared.refusals.Refusal.{Refusal}
 use Rattle.lg_types.specs.declared.refusals.Refusal.TheVariants.{NoTransaction, Already, Used, KeyInput}
-use Rattle.lg_types.specs.Lists.{or_else, last_of}
+use Rattle.lg_types.specs.Lists.{or_else}
 use Rattle.lg_types.specs.Chain.{own_hash, input_hash}
 use Rattle.lg_types.specs.Changes.{MetaOf}
 use Rattle.lg_types.specs.Known.{Dated, Undoing, kept, used, find_transaction, undone, next_entry, next_transaction, date}

@@ -4,6 +4,7 @@
 mod answers;
 mod decided;
 mod items;
+pub mod laws;
 mod lines;
 mod replies;
 mod views;
@@ -41,3 +42,6 @@ pub type BalanceList = List<BalanceItem>;
 
 /// What became of the elements of a list.
 pub type BulkList = List<BulkItem>;
+
+#[cfg(test)]
+mod tests;

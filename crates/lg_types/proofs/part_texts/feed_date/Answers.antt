@@ -1,8 +1,7 @@
-use Rattle.std.proofs.Common.{◌≡◌, ℕ, ◌-◌, List, [], ◌∷◌, ◌++◌, take, ◌∙◌, ap, arith}
+use Rattle.std.proofs.Common.{ℕ, List, [], ◌∷◌, ◌++◌, ◌∙◌, ap}
 use Rattle.std.proofs.lemmas.Int.{to_z-of_z}
 use Rattle.std.proofs.Common.{w64}
 use Rattle.lg_time.specs.Canonical.{moment_text}
-use Rattle.lg_base.specs.Growth.{Gives}
 use Rattle.lg_base.proofs.Feeds.{same_text}
 use Rattle.lg_types.specs.PartTexts.{date_text}
 use Rattle.lg_types.proofs.part_texts.feed_date.Goals as goal

@@ -1,8 +1,7 @@
-use Rattle.std.proofs.Common.{◌≡◌, ℕ, ◌≤◌, List, [], ◌∷◌, ◌++◌, length, drop, replicate, ◌∙◌, ap, arith, lit≤}
+use Rattle.std.proofs.Common.{◌≡◌, ℕ, ◌≤◌, List, [], ◌∷◌, ◌++◌, length, replicate, ◌∙◌, ap, lit≤}
 use Rattle.std.proofs.lemmas.List.{append-nil, drop_all}
 use Rattle.base64.specs.GeneralPurpose.{encode_of, encoded_size_of}
 use Rattle.base64.specs.Engines.{standard}
-use Rattle.lg_base.specs.Growth.{Gives}
 use Rattle.lg_base.proofs.Feeds.{same_text}
 use Rattle.lg_types.specs.PartTexts.{hash_text}
 use Rattle.lg_types.proofs.part_texts.feed_hash.Goals as goal

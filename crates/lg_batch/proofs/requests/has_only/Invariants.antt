@@ -1,0 +1,10 @@
+use Rattle.std.proofs.Common.{◌≡◌, drop}
+use Rattle.lg_json.specs.Tree.{entries}
+use Rattle.lg_json.specs.View.{entries_view}
+use Rattle.lg_batch.specs.Requests as spec
+use Rattle.lg_batch.specs.Views.{bytes_of}
+use Rattle.lg_batch.proofs.requests.has_only.Given as goal
+
+abbrev pub invariant-loop-member : goal.invariant-loop-member
+invariant-loop-member l =
+    spec.has_only (bytes_of l.names) (entries (entries_view (drop l.member-index l.members))) ≡ spec.has_only (bytes_of l.names) (entries (entries_view l.members))

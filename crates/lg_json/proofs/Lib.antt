@@ -1,0 +1,15 @@
+pub mod Standing
+pub mod Lists
+pub mod Texts
+pub mod Sound
+pub mod Meets
+pub mod Reaches
+pub mod TextRuns
+pub mod Names
+pub mod Goes
+pub mod Whole
+pub mod Fit
+pub mod Utf8Texts
+pub mod Loop
+pub mod Laws
+pub mod Completing

@@ -1,0 +1,134 @@
+-- What the bytes that were read are, in each state of the reading.
+use Rattle.std.proofs.Common.{◌≡◌, ℕ, ◌+◌, ◌*◌, ◌<◌, ◌≤◌, ◌⊎◌, Bool, List, [], ◌∷◌, ◌++◌, length}
+use Rattle.std.specs.Char.{digit_value}
+use Rattle.std.specs.Str.{encode_utf8_all}
+use Rattle.lg_containers.specs.Utf8.{BeginsChar}
+use Rattle.lg_containers.specs.declared.utf8.Utf8State.TheVariants.{Boundary, Inside}
+use Rattle.lg_json.specs.Tree.{Tree, Entry, trees, entries}
+use Rattle.lg_json.specs.Grammar.{IsBlank, IsHexDigit, IsPositive, number_from, minus_if, IsUnit, IsHigh, AreChars, IsString, IsValue, AreItems, AreMembers, IsJson}
+use Rattle.lg_json.specs.Reading.{Frame, Mode, State, capped}
+use Rattle.lg_json.specs.Reading.Frame.{in_list, in_object, named}
+use Rattle.lg_json.specs.Reading.Mode.{before_value, before_first, before_first_name, before_name, before_colon, in_word, after_minus, after_zero, in_digits, in_text, after_item, ended}
+use Rattle.lg_json.specs.Before.{BeforeName, BeforeValue}
+use Rattle.lg_json.specs.declared.mode.TextMode.{TextMode}
+use Rattle.lg_json.specs.declared.mode.TextMode.TheVariants.{Character, Escape, Unit as UnitMode, AfterHigh, AfterHighEscape, Low}
+use Rattle.lg_json.specs.declared.mode.Role.{Role}
+
+-- whole characters, and their text
+pub record Spelled (t inner : List ℕ) : Type 0 where
+  pub chars : List ℕ
+  pub spelled : AreChars chars inner
+  pub value : t ≡ encode_utf8_all chars
+
+-- the digits of an escape so far: how many are to come, and their value. Two digits tell a low surrogate.
+abbrev pub IsNoLow : ℕ → Type 0
+IsNoLow u = (u < 220) ⊎ (223 < u)
+
+abbrev pub UnitDigits : ℕ → ℕ → List ℕ → Type 0
+UnitDigits n u [] = (n ≡ 4) × (u ≡ 0)
+UnitDigits n u (a ∷ []) = (n ≡ 3) × IsHexDigit a × (u ≡ digit_value a)
+UnitDigits n u (a ∷ b ∷ []) = (n ≡ 2) × IsHexDigit a × IsHexDigit b × (u ≡ digit_value a * 16 + digit_value b) × IsNoLow u
+UnitDigits n u (a ∷ b ∷ c ∷ []) = (n ≡ 1) × IsHexDigit a × IsHexDigit b × IsHexDigit c × (u ≡ (digit_value a * 16 + digit_value b) * 16 + digit_value c) × IsNoLow (digit_value a * 16 + digit_value b)
+UnitDigits n u (a ∷ b ∷ c ∷ d ∷ ds) = ⊥
+
+abbrev pub LowDigits : ℕ → ℕ → List ℕ → Type 0
+LowDigits n u [] = (n ≡ 4) × (u ≡ 0)
+LowDigits n u (a ∷ []) = (n ≡ 3) × (digit_value a ≡ 13) × (u ≡ 13)
+LowDigits n u (a ∷ b ∷ []) = (n ≡ 2) × (digit_value a ≡ 13) × IsHexDigit b × (12 ≤ digit_value b) × (u ≡ 208 + digit_value b)
+LowDigits n u (a ∷ b ∷ c ∷ []) = (n ≡ 1) × (digit_value a ≡ 13) × IsHexDigit b × (12 ≤ digit_value b) × IsHexDigit c × (u ≡ (208 + digit_value b) * 16 + digit_value c)
+LowDigits n u (a ∷ b ∷ c ∷ d ∷ ds) = ⊥
+
+-- the bytes after the first quote, of which the text so far is t
+abbrev pub TextStands : List ℕ → TextMode → List ℕ → Type 0
+TextStands t (Character Boundary) inner = Spelled t inner
+TextStands t (Character (Inside low high left)) inner = (text done part : List ℕ) × Spelled text done × BeginsChar part (Inside low high left) × (low ≤ high) × (t ≡ text ++ part) × (inner ≡ done ++ part)
+TextStands t Escape inner = (done : List ℕ) × Spelled t done × (inner ≡ done ++ 92 ∷ [])
+TextStands t (UnitMode n u) inner = (done digits : List ℕ) × Spelled t done × UnitDigits n u digits × (inner ≡ done ++ 92 ∷ 117 ∷ digits)
+TextStands t (AfterHigh h) inner = (done front : List ℕ) × Spelled t done × IsHigh h × IsUnit h front × (inner ≡ done ++ front)
+TextStands t (AfterHighEscape h) inner = (done front : List ℕ) × Spelled t done × IsHigh h × IsUnit h front × (inner ≡ done ++ (front ++ 92 ∷ []))
+TextStands t (Low h n u) inner = (done front digits : List ℕ) × Spelled t done × IsHigh h × IsUnit h front × LowDigits n u digits × (inner ≡ done ++ (front ++ 92 ∷ 117 ∷ digits))
+
+-- a number's digits so far
+pub record DigitsStand (Outer : List ℕ → Type 0) (negative : Bool) (n p : ℕ) (front : List ℕ) : Type 0 where
+  pub outer : List ℕ
+  pub digits : List ℕ
+  pub before : Outer outer
+  pub first : p ≡ length outer
+  pub positive : IsPositive digits
+  pub value : n ≡ capped (number_from 0 digits)
+  pub parts : front ≡ outer ++ (minus_if negative ++ digits)
+
+abbrev pub WordStands : (List ℕ → Type 0) → List ℕ → Tree → List ℕ → Type 0
+WordStands Outer rest t front = (outer done : List ℕ) × Outer outer × IsValue t (done ++ rest) × (front ≡ outer ++ done)
+
+abbrev pub MinusStands : (List ℕ → Type 0) → ℕ → List ℕ → Type 0
+MinusStands Outer p front = (outer : List ℕ) × Outer outer × (p ≡ length outer) × (front ≡ outer ++ 45 ∷ [])
+
+abbrev pub ZeroStands : (List ℕ → Type 0) → Bool → ℕ → List ℕ → Type 0
+ZeroStands Outer negative p front = (outer : List ℕ) × Outer outer × (p ≡ length outer) × (front ≡ outer ++ (minus_if negative ++ 48 ∷ []))
+
+abbrev pub InTextStands : (List ℕ → Type 0) → List ℕ → TextMode → List ℕ → Type 0
+InTextStands Outer t m front = (outer inner : List ℕ) × Outer outer × TextStands t m inner × (front ≡ outer ++ 34 ∷ inner)
+
+abbrev pub NameStands : (List ℕ → Type 0) → ℕ → List ℕ → TextMode → List ℕ → Type 0
+NameStands Outer q t m front = (outer inner : List ℕ) × Outer outer × (q ≡ length outer) × TextStands t m inner × (front ≡ outer ++ 34 ∷ inner)
+
+-- after an item of a list, and a member of an object
+abbrev pub AfterItem : (List ℕ → Type 0) → List Tree → List ℕ → Type 0
+AfterItem Outer [] front = ⊥
+AfterItem Outer (t ∷ ts) front = (outer inner : List ℕ) × Outer outer × AreItems (trees (t ∷ ts)) inner × (front ≡ outer ++ 91 ∷ inner)
+
+abbrev pub AfterMember : (List ℕ → Type 0) → List Entry → List ℕ → Type 0
+AfterMember Outer [] front = ⊥
+AfterMember Outer (m ∷ ms) front = (outer inner : List ℕ) × Outer outer × AreMembers (entries (m ∷ ms)) inner × (front ≡ outer ++ 123 ∷ inner)
+
+abbrev pub BeforeColon : (List ℕ → Type 0) → List Entry → List ℕ → List ℕ → Type 0
+BeforeColon Outer ms name front = (before quoted gap : List ℕ) × BeforeName Outer ms before × IsString name quoted × IsBlank gap × (front ≡ before ++ (quoted ++ gap))
+
+-- the modes that depend on the innermost of what is open
+abbrev pub FirstStands : List Frame → List ℕ → Type 0
+FirstStands (in_list [] ∷ fs) front = BeforeValue (in_list [] ∷ fs) front
+FirstStands _ front = ⊥
+
+abbrev pub FirstNameStands : List Frame → List ℕ → Type 0
+FirstNameStands (in_object [] ∷ fs) front = BeforeName (BeforeValue fs) [] front
+FirstNameStands _ front = ⊥
+
+abbrev pub NextNameStands : List Frame → List ℕ → Type 0
+NextNameStands (in_object (m ∷ ms) ∷ fs) front = BeforeName (BeforeValue fs) (m ∷ ms) front
+NextNameStands _ front = ⊥
+
+abbrev pub ColonStands : List Frame → List ℕ → Type 0
+ColonStands (named ms name ∷ fs) front = BeforeColon (BeforeValue fs) ms name front
+ColonStands _ front = ⊥
+
+abbrev pub RoleStands : List Frame → Role → List ℕ → TextMode → List ℕ → Type 0
+RoleStands fs Role.Value t m front = InTextStands (BeforeValue fs) t m front
+RoleStands (in_object ms ∷ fs) (Role.Name q) t m front = NameStands (BeforeName (BeforeValue fs) ms) q t m front
+RoleStands _ (Role.Name q) t m front = ⊥
+
+abbrev pub ItemStands : List Frame → List ℕ → Type 0
+ItemStands (in_list ts ∷ fs) front = AfterItem (BeforeValue fs) ts front
+ItemStands (in_object ms ∷ fs) front = AfterMember (BeforeValue fs) ms front
+ItemStands _ front = ⊥
+
+abbrev pub EndStands : List Frame → Tree → List ℕ → Type 0
+EndStands [] t front = IsJson t front
+EndStands (f ∷ fs) t front = ⊥
+
+abbrev pub Stands : List Frame → Mode → List ℕ → Type 0
+Stands fs before_value front = BeforeValue fs front
+Stands fs before_first front = FirstStands fs front
+Stands fs before_first_name front = FirstNameStands fs front
+Stands fs before_name front = NextNameStands fs front
+Stands fs before_colon front = ColonStands fs front
+Stands fs (in_word rest t) front = WordStands (BeforeValue fs) rest t front
+Stands fs (after_minus p) front = MinusStands (BeforeValue fs) p front
+Stands fs (after_zero negative p) front = ZeroStands (BeforeValue fs) negative p front
+Stands fs (in_digits negative n p) front = DigitsStand (BeforeValue fs) negative n p front
+Stands fs (in_text role t m) front = RoleStands fs role t m front
+Stands fs after_item front = ItemStands fs front
+Stands fs (ended t) front = EndStands fs t front
+
+abbrev pub StandsAt : List ℕ → State → Type 0
+StandsAt front s = Stands s.frames s.mode front

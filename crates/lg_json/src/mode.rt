@@ -1,0 +1,68 @@
+use crate::json::{Json, Member};
+use crate::stack::Stack;
+use lg_containers::Text;
+use lg_containers::utf8::Utf8State;
+use sqlite_items::Items;
+
+/// A list or an object that is open.
+#[derive(Drop)]
+pub enum Frame {
+    List(Items<Json>),
+    Object(Items<Member>),
+    /// An object whose last name has its value still to come.
+    Named(Items<Member>, Text),
+}
+
+/// What a text is read for.
+#[derive(Clone, Copy)]
+pub enum Role {
+    Value,
+    /// A member's name, with the place of its first quote.
+    Name(usize),
+}
+
+/// Where the reading of a text stands, between its quotes.
+#[derive(Clone, Copy)]
+pub enum TextMode {
+    /// In a character that stands for itself.
+    Character(Utf8State),
+    /// After a backslash.
+    Escape,
+    /// In a `\u` escape: the digits to come, from 4 to 1, and the value of those before.
+    Unit(u8, u16),
+    /// After an escape that is a high surrogate, whose low surrogate has to follow.
+    AfterHigh(u16),
+    AfterHighEscape(u16),
+    /// In the escape of the low surrogate: the high one, and as for `Unit`.
+    Low(u16, u8, u16),
+}
+
+/// What comes next. Where a number is read, the last part is the place of its first byte.
+#[derive(Drop)]
+pub enum Mode {
+    BeforeValue,
+    /// After `[`.
+    BeforeFirst,
+    /// After `{`.
+    BeforeFirstName,
+    BeforeName,
+    BeforeColon,
+    /// In a word: what is left of it, and its value.
+    InWord(&'static [u8], Json),
+    AfterMinus(usize),
+    AfterZero(bool, usize),
+    /// In a number: whether it is negative, and the value of the digits so far.
+    InDigits(bool, u128, usize),
+    InText(Role, Vec<u8>, TextMode),
+    /// After an item of the innermost list or a member of the innermost object.
+    AfterItem,
+    /// After the whole value.
+    Ended(Json),
+}
+
+/// Where the reading stands: what is open, the innermost first, and what comes next.
+#[derive(Drop)]
+pub struct State {
+    pub frames: Stack<Frame>,
+    pub mode: Mode,
+}

@@ -1,0 +1,7 @@
+mod Cuts
+mod Folds
+mod Marking
+mod Marks
+mod Histories
+mod Readings
+mod Rising

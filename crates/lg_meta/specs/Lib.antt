@@ -1,0 +1,3 @@
+pub mod MetaFold
+pub mod History
+pub mod Index

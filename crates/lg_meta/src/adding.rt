@@ -1,0 +1,69 @@
+//! What a history does to its parts.
+
+ghost use Rattle.std.specs.Prelude.{◌≡◌, ℕ, List, [], ◌∷◌, ◌++◌, filter, nat_lt, pos, OnOk, OnErr, IsTrue, vec_len};
+ghost use Rattle.std.specs.Option.{option_copied};
+ghost use Rattle.lg_containers.specs.NameOrder.{is_in_order};
+ghost use Rattle.lg_meta.specs.Index.{names, hits, places_in, changes_of, with_value, SameBelowPlace};
+
+use crate::change::{DatedChange, MetaChange};
+use crate::index::{cut, mark_change};
+use crate::places::Places;
+use lg_containers::{Duplicate, Meta, NoMemory, Text};
+use std::alloc::Global;
+
+/// Adds the change behind the others, and its place to those of its names.
+pub(crate) fn add_change(
+    alloc: Global,
+    changes: &mut Vec<DatedChange>,
+    index: &mut Vec<(Text, Places)>,
+    change: MetaChange,
+) -> Result<(), NoMemory>
+    requires { IsTrue (is_in_order index.old.items) }
+    ensures order { IsTrue (is_in_order index.new.items) }
+    ensures ok { OnOk result (changes.new.items ≡ changes.old.items ++ record { date = pos 0; change = change } ∷ []) }
+    ensures marked { OnOk result ((q : List ℕ) → places_in index.new.items q ≡ places_in index.old.items q ++ hits q (vec_len changes.old) (names change)) }
+    ensures err { OnErr result (changes.new.items ≡ changes.old.items) }
+    ensures unmarked { OnErr result ((q : List ℕ) → places_in index.new.items q ≡ filter (λ place. nat_lt place (vec_len changes.old)) (places_in index.old.items q)) }
+{
+    let place = changes.len();
+    match push_change(alloc, changes, index, change) {
+        Ok(()) => Ok(()),
+        Err(error) => {
+            cut(index, place);
+            Err(error)
+        }
+    }
+}
+
+fn push_change(
+    alloc: Global,
+    changes: &mut Vec<DatedChange>,
+    index: &mut Vec<(Text, Places)>,
+    change: MetaChange,
+) -> Result<(), NoMemory>
+    requires { IsTrue (is_in_order index.old.items) }
+    ensures order { IsTrue (is_in_order index.new.items) }
+    ensures ok { OnOk result (changes.new.items ≡ changes.old.items ++ record { date = pos 0; change = change } ∷ []) }
+    ensures marked { OnOk result ((q : List ℕ) → places_in index.new.items q ≡ places_in index.old.items q ++ hits q (vec_len changes.old) (names change)) }
+    ensures err { OnErr result (changes.new.items ≡ changes.old.items) }
+    ensures unmarked { OnErr result ((q : List ℕ) → SameBelowPlace (vec_len changes.old) (places_in index.old.items q) (places_in index.new.items q)) }
+{
+    mark_change(alloc, index, &change, changes.len())?;
+    changes.push(DatedChange { date: 0, change })?;
+    Ok(())
+}
+
+/// Puts a copy of the value under the name, where there is one.
+pub(crate) fn put_copy(
+    alloc: Global,
+    meta: &mut Meta,
+    name: &Text,
+    value: Option<&Text>,
+) -> Result<(), NoMemory>
+    ensures { OnOk result (meta.new ≡ with_value meta.old name.now (option_copied value.entry)) }
+{
+    match value {
+        None => Ok(()),
+        Some(value) => meta.put(name.copy(alloc)?, value.copy(alloc)?),
+    }
+}

@@ -1,0 +1,135 @@
+//! Histories of metadata.
+
+ghost use Rattle.std.specs.Prelude.{◌≡◌, ◌≤ℤ◌, [], ◌∷◌, ◌++◌, drop, Some, IsSome, IfSome, IfOk, OnOk, OnErr, slice_get};
+ghost use Rattle.std.specs.Option.{option_copied};
+ghost use Rattle.lg_containers.specs.NameTable.{get};
+ghost use Rattle.lg_meta.specs.MetaFold.{meta_at, first_date, last_date};
+ghost use Rattle.lg_meta.specs.History.{first_applied};
+
+use crate::adding::{add_change, put_copy};
+use crate::change::{DatedChange, MetaChange};
+use crate::index::{cut, find_places};
+use crate::latest::latest;
+use crate::places::Places;
+use lg_containers::{Duplicate, Meta, NoMemory, Text};
+use std::alloc::Global;
+use std::marker::Model;
+
+/// The changes of the metadata of one account or transaction, in the order of their dates.
+///
+/// A change is prepared first, which takes all the memory that it needs, and applied later, which takes none.
+#[derive(Drop)]
+pub struct MetaHistory {
+    alloc: Global,
+    // The applied changes, and then the prepared ones, whose dates mean nothing yet.
+    changes: Vec<DatedChange>,
+    applied: usize,
+    // For each name, in byte order, the places of its changes.
+    index: Vec<(Text, Places)>,
+}
+
+impl Model for MetaHistory {
+    ghost use Rattle.std.specs.Prelude.{take, drop};
+    ghost use Rattle.lg_meta.specs.History.{History};
+    ghost use Rattle.lg_meta.specs.Index.{IsIndexed, changes_of};
+
+    ghost Value = { History };
+
+    ghost view = { λ h. record { changes = take h.applied h.changes.items; prepared = changes_of (drop h.applied h.changes.items) } };
+
+    ghost invariant = { λ h. IsIndexed h.changes.items h.applied h.index.items };
+}
+
+impl MetaHistory {
+    /// The history without changes.
+    pub fn new(alloc: Global) -> MetaHistory
+        ensures { result ≡ record { changes = []; prepared = [] } }
+    {
+        MetaHistory {
+            alloc,
+            changes: Vec::new(alloc),
+            applied: 0,
+            index: Vec::new(alloc),
+        }
+    }
+
+    /// Prepares the change, as the last of those that are prepared.
+    pub fn prepare(&mut self, change: &MetaChange) -> Result<(), NoMemory>
+        ensures ok { OnOk result (self.new ≡ record { changes = self.old.changes; prepared = self.old.prepared ++ change.now ∷ [] }) }
+        ensures err { OnErr result (self.new ≡ self.old) }
+    {
+        let copied = change.copy(self.alloc)?;
+        add_change(self.alloc, &mut self.changes, &mut self.index, copied)
+    }
+
+    /// Gives the prepared changes up.
+    pub fn forget(&mut self)
+        ensures { self.new ≡ record { changes = self.old.changes; prepared = [] } }
+    {
+        cut(&mut self.index, self.applied);
+        self.changes.truncate(self.applied);
+    }
+
+    /// Applies the first prepared change, which is the one given, at the date. Takes no memory.
+    pub fn apply(&mut self, date: i64, change: MetaChange)
+        requires first { slice_get self.old.prepared 0 ≡ Some change }
+        requires later { IfSome (last_date self.old.changes) (λ last. last ≤ℤ date) }
+        ensures { self.new ≡ record { changes = self.old.changes ++ record { date = date; change = change } ∷ []; prepared = drop 1 self.old.prepared } }
+    {
+        drop(change);
+        self.apply_first(date);
+    }
+
+    /// Applies the first prepared change at the date. Takes no memory.
+    pub fn apply_first(&mut self, date: i64)
+        requires first { IsSome (slice_get self.old.prepared 0) }
+        requires later { IfSome (last_date self.old.changes) (λ last. last ≤ℤ date) }
+        ensures { self.new ≡ first_applied date self.old.changes self.old.prepared }
+    {
+        let dated = &mut self.changes[self.applied];
+        dated.date = date;
+        self.applied += 1;
+    }
+
+    /// The value of the name at the date, now where no date is given.
+    pub fn value(&self, name: &[u8], date: Option<i64>) -> Option<&Text>
+        ensures { option_copied result ≡ get (meta_at date self.now.changes) name.now }
+    {
+        match find_places(&self.index, name) {
+            None => None,
+            Some(places) => latest(
+                &self.changes[..self.applied],
+                places.as_slice(),
+                name,
+                &date,
+            ),
+        }
+    }
+
+    /// The date of the first applied change, and `None` exactly where there is none.
+    pub fn first(&self) -> Option<i64>
+        ensures { result ≡ first_date self.now.changes }
+    {
+        if self.applied == 0 {
+            None
+        } else {
+            Some(self.changes[0].date)
+        }
+    }
+
+    /// The metadata at the date, now where no date is given.
+    pub fn copy_at(&self, date: Option<i64>) -> Result<Meta, NoMemory>
+        ensures { IfOk result (λ meta. meta ≡ meta_at date self.now.changes) }
+    {
+        let mut meta = Meta::new(self.alloc);
+        for entry in &self.index {
+            put_copy(
+                self.alloc,
+                &mut meta,
+                &entry.0,
+                self.value(entry.0.bytes(), date),
+            )?;
+        }
+        Ok(meta)
+    }
+}

@@ -1,0 +1,11 @@
+pub mod SumLemmas
+pub mod BoundLemmas
+pub mod LineLemmas
+pub mod IndexLemmas
+pub mod BetweenLemmas
+pub mod RankLemmas
+pub mod BlockLemmas
+pub mod TreeLemmas
+pub mod GrowthLemmas
+pub mod ReadingLemmas
+pub mod LateLemmas

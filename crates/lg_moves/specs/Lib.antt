@@ -1,0 +1,10 @@
+pub mod Moves
+pub mod Bounds
+pub mod Sums
+pub mod Entries
+pub mod Line
+pub mod Index
+pub mod Ranks
+pub mod Seen
+pub mod Tree
+pub mod Late

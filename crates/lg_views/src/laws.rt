@@ -1,0 +1,62 @@
+//! Laws of the definitions. Each function's contract is a law; there is nothing to run.
+
+ghost use Rattle.lg_views.specs.PageLaws.{AccountPages, EntryPages, TransactionPages};
+ghost use Rattle.lg_views.specs.Laws.{OutcomesKeepLogs, LegalLogsImportable, AloneIsLegal, ReadsBack, RefusedAppendsNothing, ChecksImportable, ImportedAnswersAlike, AnsweredByOneLog};
+
+/// Every outcome of every call, lists of writes and imports included, keeps every ledger's log importable.
+#[tactic(auto, using(crate::proofs::Outcomes::outcomes_keep_logs))]
+pub fn outcomes_keep_logs()
+    ensures { OutcomesKeepLogs }
+{}
+
+/// Every log of a legal history is importable.
+#[tactic(auto, using(crate::proofs::Histories::legal_logs_importable))]
+pub fn legal_logs_importable()
+    ensures { LegalLogsImportable }
+{}
+
+/// A history of one thread is legal.
+#[tactic(auto, using(crate::proofs::Histories::alone_is_legal))]
+pub fn alone_is_legal()
+    ensures { AloneIsLegal }
+{}
+
+/// The lines of an importable log read back as the log.
+#[tactic(auto, using(crate::proofs::ReadBack::reads_back))]
+pub fn reads_back()
+    ensures { ReadsBack }
+{}
+
+/// A refused call appends nothing.
+#[tactic(auto, using(crate::proofs::Refused::refused_appends_nothing))]
+pub fn refused_appends_nothing()
+    ensures { RefusedAppendsNothing }
+{}
+
+/// What lines of an import come to is importable.
+#[tactic(auto, using(crate::proofs::Imported::checks_importable))]
+pub fn checks_importable()
+    ensures { ChecksImportable }
+{}
+
+/// The log of one ledger, imported into another ledger without entries, answers there alike.
+pub fn imported_answers_alike()
+    ensures { ImportedAnswersAlike }
+{}
+
+/// What is asked of a ledger is answered by its own log alone.
+#[tactic(auto, using(crate::proofs::Imported::answered_by_one_log))]
+pub fn answered_by_one_log()
+    ensures { AnsweredByOneLog }
+{}
+
+/// Following `next` from the first page of accounts gives the whole list, each once and in order.
+pub fn account_pages()
+    ensures { AccountPages }
+{}
+
+/// So it does for the entries and the transactions of an importable log.
+pub fn log_pages()
+    ensures entries { EntryPages }
+    ensures transactions { TransactionPages }
+{}
