@@ -1,0 +1,11 @@
+-- The texts of the pieces of a refusal's body.
+use Rattle.std.specs.Prelude.{ℕ, List}
+use Rattle.lg_base.specs.Texts.{quoted}
+use Rattle.lg_batch.specs.ReplyTexts.{code_of, message_text}
+use Rattle.lg_batch.specs.declared.refusal_parts.RefusalPart.{RefusalPart}
+use Rattle.lg_batch.specs.declared.refusal_parts.RefusalPart.TheVariants.{Plain, Code, Message}
+
+abbrev pub refusal_part_text : RefusalPart → List ℕ
+refusal_part_text (Plain bytes) = bytes.now
+refusal_part_text (Code refusal) = quoted (code_of refusal.now)
+refusal_part_text (Message refusal) = quoted (message_text refusal.now)
