@@ -13,3 +13,4 @@ pub mod Utf8Texts
 pub mod Loop
 pub mod Laws
 pub mod Completing
+pub mod Fitting
