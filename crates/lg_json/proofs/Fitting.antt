@@ -78,7 +78,7 @@ in_text_fitting fs outer inner h b g =
       (fitting_as _ (outer ++ (34 ∷ ((inner ++ g.more) ++ 34 ∷ []))) (simp append_assoc) (value_fitting fs (text g.t) outer (34 ∷ ((inner ++ g.more) ++ 34 ∷ [])) h tt b (string_of g.t (inner ++ g.more) g.spelled)))
 
 -- a letter as a name, before one
-before_name_fitting : (fs : List Frame) (ms : List Entry) (outer : List ℕ) → FramesFit (in_object ms ∷ fs) → BeforeName (BeforeValue fs) ms outer → BeginsFitting outer
+pub before_name_fitting : (fs : List Frame) (ms : List Entry) (outer : List ℕ) → FramesFit (in_object ms ∷ fs) → BeforeName (BeforeValue fs) ms outer → BeginsFitting outer
 before_name_fitting fs ms outer h b =
     fitting_prefix outer (34 ∷ []) (in_name_fitting fs ms outer [] h b (record { t = []; more = []; spelled = record { chars = []; spelled = refl; value = refl } }))
 
@@ -144,7 +144,7 @@ abbrev pub NumberFits : Mode → Type 0
 NumberFits (in_digits negative n p) = fits negative n ≡ true
 NumberFits _ = Unit {0}
 
-zero_fits : (negative : Bool) → fits negative 0 ≡ true
+pub zero_fits : (negative : Bool) → fits negative 0 ≡ true
 zero_fits true = refl
 zero_fits false = refl
 

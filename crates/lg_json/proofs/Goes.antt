@@ -299,7 +299,7 @@ meets_weaken (goes f) = goes (λ rest h. f rest tt)
 meets_weaken (stops fault other bars f) = stops fault other bars (λ rest h. f rest tt)
 
 -- numbers
-in_range_fits : (negative : Bool) (m : ℕ) → InRange (signed negative m) → fits negative (capped m) ≡ true
+pub in_range_fits : (negative : Bool) (m : ℕ) → InRange (signed negative m) → fits negative (capped m) ≡ true
 in_range_fits false m h = lt-ltb (capped m) (2 ^ 127) (omega arith)
 in_range_fits true zero h = refl
 in_range_fits true (suc k) h = le-leb (capped (suc k)) (2 ^ 127) (omega arith)

@@ -14,3 +14,4 @@ pub mod Loop
 pub mod Laws
 pub mod Completing
 pub mod Fitting
+pub mod Faults

@@ -63,3 +63,14 @@ members_fit_push room (m ∷ ms) name t h new f =
 pub all_fit_push : (room : ℕ) (ts : List Tree) (t : Tree) → AllFit room (trees ts) → Fits room t → AllFit room (trees (ts ++ t ∷ []))
 all_fit_push room [] t h f = (f, tt)
 all_fit_push room (u ∷ us) t h f = (h.0, all_fit_push room us t h.1 f)
+
+pub new_has_not : (name : List ℕ) (ms : List Entry) → IsNew name (entries ms) → has_name name ms ≡ false
+new_has_not name [] h = refl
+new_has_not name (m ∷ ms) h = ap (λ b. b || has_name name ms) (differ m.0 name (λ e. h.0 (sym e))) ∙ new_has_not name ms h.1
+
+pub not_new : (name : List ℕ) (ms : List Entry) → has_name name ms ≡ true → IsNew name (entries ms) → ⊥
+not_new name ms e h = false≢true (sym (new_has_not name ms h) ∙ e)
+
+pub new_of_not : (name : List ℕ) (ms : List Entry) → has_name name ms ≡ false → IsNew name (entries ms)
+new_of_not name [] h = tt
+new_of_not name (m ∷ ms) h = let p = or_parts (bytes_eq m.0 name) (has_name name ms) h in (λ e. false≢true (sym p.0 ∙ same_bytes m.0 name (sym e)), new_of_not name ms p.1)
