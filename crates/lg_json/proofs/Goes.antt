@@ -134,7 +134,7 @@ padded_goes t g i j fs m k gs bytes e d ready same passes h place =
     regroup rest = rw h.6 (simp append_assoc)
 
 -- after an item
-comma_item : (i : ℕ) (ts : List Tree) (fs : List Frame) → step i (in_list ts ∷ fs) after_item 44 ≡ Ok (at (in_list ts ∷ fs) before_value)
+pub comma_item : (i : ℕ) (ts : List Tree) (fs : List Frame) → step i (in_list ts ∷ fs) after_item 44 ≡ Ok (at (in_list ts ∷ fs) before_value)
 unfolding step
 comma_item i ts fs = refl
 
@@ -142,7 +142,7 @@ bracket_item : (i : ℕ) (ts : List Tree) (fs : List Frame) → step i (in_list 
 unfolding step
 bracket_item i ts fs = refl
 
-comma_member : (i : ℕ) (ms : List Entry) (fs : List Frame) → step i (in_object ms ∷ fs) after_item 44 ≡ Ok (at (in_object ms ∷ fs) before_name)
+pub comma_member : (i : ℕ) (ms : List Entry) (fs : List Frame) → step i (in_object ms ∷ fs) after_item 44 ≡ Ok (at (in_object ms ∷ fs) before_name)
 unfolding step
 comma_member i ms fs = refl
 
@@ -208,7 +208,7 @@ pub name_ready : (fs : List Frame) → NameReady fs before_name
 unfolding step
 name_ready fs = record { passes = name_passes fs; starts = λ i. refl }
 
-colon_step : (i : ℕ) (fs : List Frame) → step i fs before_colon 58 ≡ Ok (at fs before_value)
+pub colon_step : (i : ℕ) (fs : List Frame) → step i fs before_colon 58 ≡ Ok (at fs before_value)
 unfolding step
 colon_step i fs = refl
 
@@ -355,11 +355,11 @@ text_goes t i j fs word h place =
       ∙ string_reads t word h i (suc i + length h.inner) fs Role.Value rest refl ∙ reads_at _ j (complete fs (text t)) rest (omega (arith, length-append h.inner (34 ∷ []))))
 
 -- lists
-begin_list : (i : ℕ) (fs : List Frame) → begin i fs 91 ≡ cond (nat_lt (length fs) 64) (Ok (at (in_list [] ∷ fs) before_first)) (Err (TooDeep i))
+pub begin_list : (i : ℕ) (fs : List Frame) → begin i fs 91 ≡ cond (nat_lt (length fs) 64) (Ok (at (in_list [] ∷ fs) before_first)) (Err (TooDeep i))
 unfolding begin
 begin_list i fs = refl
 
-begin_object : (i : ℕ) (fs : List Frame) → begin i fs 123 ≡ cond (nat_lt (length fs) 64) (Ok (at (in_object [] ∷ fs) before_first_name)) (Err (TooDeep i))
+pub begin_object : (i : ℕ) (fs : List Frame) → begin i fs 123 ≡ cond (nat_lt (length fs) 64) (Ok (at (in_object [] ∷ fs) before_first_name)) (Err (TooDeep i))
 unfolding begin
 begin_object i fs = refl
 

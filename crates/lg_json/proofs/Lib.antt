@@ -15,3 +15,4 @@ pub mod Laws
 pub mod Completing
 pub mod Fitting
 pub mod Faults
+pub mod Fronts
