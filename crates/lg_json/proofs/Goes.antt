@@ -304,7 +304,7 @@ in_range_fits false m h = lt-ltb (capped m) (2 ^ 127) (omega arith)
 in_range_fits true zero h = refl
 in_range_fits true (suc k) h = le-leb (capped (suc k)) (2 ^ 127) (omega arith)
 
-fits_uncapped : (negative : Bool) (m : ℕ) → fits negative (capped m) ≡ true → capped m ≡ m
+pub fits_uncapped : (negative : Bool) (m : ℕ) → fits negative (capped m) ≡ true → capped m ≡ m
 fits_uncapped true m e = let k : capped m ≤ 2 ^ 127 = leb-true (capped m) (2 ^ 127) e in omega arith
 fits_uncapped false m e = let k : capped m < 2 ^ 127 = ltb-true (capped m) (2 ^ 127) e in omega arith
 

@@ -16,3 +16,4 @@ pub mod Completing
 pub mod Fitting
 pub mod Faults
 pub mod Fronts
+pub mod Each

@@ -1,6 +1,6 @@
 -- What the reading comes to over blanks, words and numbers.
 use Rattle.std.proofs.Common.{◌≡◌, ℕ, zero, suc, ◌+◌, ◌-◌, ◌*◌, ◌^◌, ◌<◌, ◌≤◌, ◌⊎◌, min, Bool, true, false, cond, ◌||◌, ◌&&◌, nat_lt, nat_le, ◌==◌, List, [], ◌∷◌, ◌++◌, length, Result, Ok, Err, ℤ, pos, negsuc, neg_ℤ, codes, refl, sym, ap, ◌∙◌, subst, inl, inr, arith, append_assoc, append-nil, eqb-true, ltb-true, ltb-false}
-use Rattle.std.proofs.lemmas.Bool.{cond_both, cond-true, cond-false, eqb-false, leb-true, leb-false, le-leb, lt-leb, lt-ltb, le-ltb, ne_eqb, eq-eqb, and_from, or_cases}
+use Rattle.std.proofs.lemmas.Bool.{cond_both, cond-true, cond-false, eqb-false, leb-true, leb-false, le-leb, lt-leb, lt-ltb, le-ltb, ne_eqb, eq-eqb, and_from, or_cases, cases_Bool}
 use Rattle.lg_json.specs.Tree.{Tree, Entry, trees, entries}
 use Rattle.lg_json.specs.Tree.Tree.{null, truth, whole, part, text, list, members}
 use Rattle.lg_json.specs.Grammar.{IsBlank, IsBlankByte, IsDigit, AreDigits, IsPositive, IsInt, IsWhole, number_from, signed, minus_if, InRange}
@@ -191,11 +191,32 @@ minus_digit : (i : ℕ) (fs : List Frame) (p d : ℕ) → 49 ≤ d → d ≤ 57 
 unfolding step
 minus_digit i fs p d low high = cond-false (d == 48) _ _ (ne_eqb d 48 (λ e. omega arith)) ∙ cond-true (is_digit d) _ _ (digit_test d (omega arith, high))
 
+-- a number that is too wide stays so
+more_wide : (negative : Bool) (n d : ℕ) → fits negative n ≡ false → fits negative (capped (n * 10 + d)) ≡ false
+more_wide true n d e = let h : 2 ^ 127 < n = leb-false n (2 ^ 127) e in lt-leb (capped (n * 10 + d)) (2 ^ 127) (omega arith)
+more_wide false n d e = let h : 2 ^ 127 ≤ n = ltb-false n (2 ^ 127) e in le-ltb (capped (n * 10 + d)) (2 ^ 127) (omega arith)
+
+wide_digit : (b : ℕ) (i : ℕ) (fs : List Frame) (negative : Bool) (n p : ℕ) → is_digit b ≡ false → fits negative n ≡ false → (f : JsonFault) × (step i fs (in_digits negative n p) b ≡ Err f)
+unfolding step end_number
+wide_digit b i fs negative n p no_digit wide = elim (cases_Bool (begins_part b)) [
+  | inl e ↦ (NotWhole p, cond-false (is_digit b) _ _ no_digit ∙ cond-true (begins_part b) _ _ e)
+  | inr e ↦ (TooWide p, cond-false (is_digit b) _ _ no_digit ∙ cond-false (begins_part b) _ _ e ∙ cond-false (fits negative n) _ _ wide)
+]
+
+wide_never : (xs : List ℕ) (i : ℕ) (fs : List Frame) (negative : Bool) (n p : ℕ) (t : Tree) → fits negative n ≡ false → reads i (at fs (in_digits negative n p)) xs ≡ Ok t → ⊥
+unfolding finish
+wide_never [] i fs negative n p t wide e = let g : Err (TooWide p) ≡ Ok t = sym (reads_none i (at fs (in_digits negative n p)) ∙ cond-false (fits negative n) _ _ wide) ∙ e in cc
+wide_never (b ∷ bs) i fs negative n p t wide e = elim (cases_Bool (is_digit b)) [
+  | inl digit ↦ wide_never bs (suc i) fs negative (capped (n * 10 + (b - 48))) p t (more_wide negative n (b - 48) wide) (sym (reads_one i fs (in_digits negative n p) b bs _ (one_digit i fs negative n p b digit)) ∙ e)
+  | inr no_digit ↦ (let r = wide_digit b i fs negative n p no_digit wide in let g : Err r.0 ≡ Ok t = sym (reads_stop i fs (in_digits negative n p) b bs r.0 r.1) ∙ e in cc)
+]
+
 -- a number's value before it ends
 pub record IsInNumber (fs : List Frame) (negative : Bool) (value p i : ℕ) (x : List ℕ → Result Tree JsonFault) : Type 0 where
   pub ends : (rest : List ℕ) → EndsNumber rest → fits negative (capped value) ≡ true → x rest ≡ reads i (complete fs (whole (signed negative (capped value)))) rest
   pub wide : (rest : List ℕ) → EndsNumber rest → fits negative (capped value) ≡ false → x rest ≡ Err (TooWide p)
   pub has_part : (b : ℕ) (rest : List ℕ) → begins_part b ≡ true → x (b ∷ rest) ≡ Err (NotWhole p)
+  pub no_value : (rest : List ℕ) (t : Tree) → fits negative (capped value) ≡ false → x rest ≡ Ok t → ⊥
 
 in_number : (i j : ℕ) (fs : List Frame) (negative : Bool) (d p : ℕ) (ds : List ℕ) → d ≤ 57 → AreDigits ds → j ≡ i + length ds → IsInNumber fs negative (number_from (0 * 10 + (d - 48)) ds) p j (λ rest. reads i (at fs (in_digits negative (d - 48) p)) (ds ++ rest))
 in_number i j fs negative d p ds high h e =
@@ -205,6 +226,7 @@ in_number i j fs negative d p ds high h e =
       ends = λ rest r ok. past rest ∙ number_ends rest j fs negative _ p r ok;
       wide = λ rest r w. past rest ∙ number_wide rest j fs negative _ p r w;
       has_part = λ b rest f. past (b ∷ rest) ∙ number_part b rest j fs negative _ p f;
+      no_value = λ rest t w g. wide_never rest j fs negative _ p t w (sym (past rest) ∙ g);
     }
 
 in_zero : (i : ℕ) (fs : List Frame) (negative : Bool) (p : ℕ) → IsInNumber fs negative 0 p i (λ rest. reads i (at fs (after_zero negative p)) rest)
@@ -212,6 +234,7 @@ in_zero i fs negative p = record {
   ends = λ rest r ok. zero_ends rest i fs negative p r;
   wide = λ rest r w. absurd (never negative w);
   has_part = λ b rest f. zero_part b rest i fs negative p f;
+  no_value = λ rest t w g. never negative w;
 }
   where
     never : (negative : Bool) → fits negative (capped 0) ≡ false → ⊥
@@ -223,6 +246,7 @@ in_number_from fs negative value p i x y e n = record {
   ends = λ rest r ok. e rest ∙ n.ends rest r ok;
   wide = λ rest r w. e rest ∙ n.wide rest r w;
   has_part = λ b rest f. e (b ∷ rest) ∙ n.has_part b rest f;
+  no_value = λ rest t w g. n.no_value rest t w (sym (e rest) ∙ g);
 }
 
 -- a number from its first byte on
