@@ -14,11 +14,11 @@ use Rattle.lg_json.specs.Reading.{Frame, complete}
 use Rattle.lg_json.specs.Reading.Frame.{in_list, in_object, named}
 use Rattle.lg_json.specs.Before.{BeforeValue}
 use Rattle.lg_json.specs.Fault.{Begins, BeginsFitting}
-use Rattle.lg_json.specs.declared.mode.TextMode.{TextMode}
-use Rattle.lg_json.specs.declared.mode.TextMode.TheVariants.{Character, Escape, Unit as UnitMode, AfterHigh, AfterHighEscape, Low}
+use Rattle.lg_json.specs.declared.state.TextMode.{TextMode}
+use Rattle.lg_json.specs.declared.state.TextMode.TheVariants.{Character, Escape, Unit as UnitMode, AfterHigh, AfterHighEscape, Low}
 use Rattle.lg_containers.specs.declared.utf8.Utf8State.TheVariants.{Boundary, Inside}
 use Rattle.lg_containers.specs.Utf8Laws.{can_finish}
-use Rattle.lg_json.proofs.Standing.{Spelled, IsNoLow, UnitDigits, LowDigits, TextStands}
+use Rattle.lg_json.specs.Texts.{Spelled, IsNoLow, UnitDigits, LowDigits, TextStands}
 use Rattle.lg_json.proofs.Texts.{spelled_push}
 use Rattle.lg_json.proofs.Lists.{padded}
 use Rattle.lg_json.proofs.Sound.{completes}

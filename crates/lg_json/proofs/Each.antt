@@ -14,7 +14,8 @@ use Rattle.lg_json.specs.Before.{BeforeName, BeforeValue}
 use Rattle.lg_json.specs.Fault.{Begins, BeginsFitting, NotJson, IsLongestFront, Before, EndsNumber, IsSyntax, IsNotWhole, IsTooWide, IsTooDeep, IsRepeated, IsFault}
 use Rattle.lg_json.specs.declared.json.JsonFault.{JsonFault}
 use Rattle.lg_json.specs.declared.json.JsonFault.TheVariants.{Syntax, NotWhole, TooWide, TooDeep, Repeated, NoMemory}
-use Rattle.lg_json.proofs.Reaches.{begins, number_goes}
+use Rattle.lg_json.specs.Tokens.{begins}
+use Rattle.lg_json.proofs.Reaches.{number_goes}
 use Rattle.lg_json.proofs.Names.{new_of_not}
 use Rattle.lg_json.proofs.Goes.{starts_word, head_of, fits_uncapped, quoted_reads, begin_list, begin_object}
 use Rattle.lg_json.proofs.Sound.{reading_sound}

@@ -5,19 +5,20 @@ use Rattle.std.proofs.lemmas.List.{length-append, take_at}
 use Rattle.lg_json.specs.Tree.{Tree, Entry, trees, entries}
 use Rattle.lg_json.specs.Tree.Tree.{null, whole, text, list, members}
 use Rattle.lg_json.specs.Grammar.{IsInt, IsWhole, number_from, signed, minus_if, IsString, IsJson, InRange, IsNew, Fits}
-use Rattle.lg_json.specs.Reading.{Frame, Mode, State, at, is_blank, is_digit, with_value, complete, open_frame, begin, follow, after, capped, fits, begins_part, end_number, closes, has_name, with_name, end_text, text_step, in_text_step, TextState, word_step, close_empty, step, whole_text, finish, and_then, reads, reading}
+use Rattle.lg_json.specs.Reading.{Frame, Mode, State, at, is_blank, is_digit, with_value, complete, open_frame, begin, follow_on, follow, after, capped, fits, begins_part, end_number, closes, has_name, with_name, end_text, text_step, in_text_step, TextState, word_step, close_empty, step, whole_text, finish, and_then, reads, reading}
 use Rattle.lg_json.specs.Reading.Frame.{in_list, in_object, named}
 use Rattle.lg_json.specs.Reading.Mode.{before_value, before_first, before_first_name, before_name, before_colon, in_word, after_minus, after_zero, in_digits, in_text, after_item, ended}
 use Rattle.lg_json.specs.Before.{BeforeName, BeforeValue}
 use Rattle.lg_json.specs.Fault.{Begins, BeginsFitting, NotJson, IsLongestFront, Before, EndsNumber, IsSyntax, IsNotWhole, IsTooWide, IsTooDeep, IsRepeated, IsFault}
 use Rattle.lg_json.specs.declared.json.JsonFault.{JsonFault}
 use Rattle.lg_json.specs.declared.json.JsonFault.TheVariants.{Syntax, NotWhole, TooWide, TooDeep, Repeated, NoMemory}
-use Rattle.lg_json.specs.declared.mode.Role.{Role}
-use Rattle.lg_json.specs.declared.mode.TextMode.{TextMode}
-use Rattle.lg_json.specs.declared.mode.TextMode.TheVariants.{Character}
+use Rattle.lg_json.specs.Reading.{Role}
+use Rattle.lg_json.specs.declared.state.TextMode.{TextMode}
+use Rattle.lg_json.specs.declared.state.TextMode.TheVariants.{Character}
 use Rattle.lg_containers.specs.declared.utf8.Utf8State.TheVariants.{Boundary}
 use Rattle.lg_json.proofs.Meets.{IsOther}
-use Rattle.lg_json.proofs.Standing.{Spelled, DigitsStand, RoleStands, FirstStands, Stands, StandsAt}
+use Rattle.lg_json.specs.Texts.{Spelled}
+use Rattle.lg_json.proofs.Standing.{DigitsStand, RoleStands, FirstStands, Stands, StandsAt}
 use Rattle.lg_json.proofs.Sound.{Keeps, step_keeps, Closes, closes_at}
 use Rattle.lg_json.proofs.Names.{not_new}
 use Rattle.lg_json.proofs.Goes.{in_range_fits}
@@ -66,13 +67,14 @@ begin_faults i fs b front rest place h s =
     (λ _. cond_both (b == 48) _ _ (Faults (front ++ b ∷ rest) i front) (λ _. tt)
     (λ _. cond_both (is_digit b) _ _ (Faults (front ++ b ∷ rest) i front) (λ _. tt) (λ _. (refl, before_fitting fs front h s))))))))))
 
+follow_on_faults : (bytes : List ℕ) (i : ℕ) (fs : List Frame) (b : ℕ) (front : List ℕ) → BeginsFitting front → Faults bytes i front (follow_on i fs b)
+follow_on_faults bytes i [] b front f = (refl, f)
+follow_on_faults bytes i (in_list ts ∷ fs) b front f = cond_both (b == 44) _ _ (Faults bytes i front) (λ _. tt) (λ _. cond_both (b == 93) _ _ (Faults bytes i front) (λ _. tt) (λ _. (refl, f)))
+follow_on_faults bytes i (in_object ms ∷ fs) b front f = cond_both (b == 44) _ _ (Faults bytes i front) (λ _. tt) (λ _. cond_both (b == 125) _ _ (Faults bytes i front) (λ _. tt) (λ _. (refl, f)))
+follow_on_faults bytes i (named ms name ∷ fs) b front f = (refl, f)
+
 follow_faults : (bytes : List ℕ) (i : ℕ) (fs : List Frame) (b : ℕ) (front : List ℕ) → BeginsFitting front → Faults bytes i front (follow i fs b)
-follow_faults bytes i [] b front f = (refl, f)
-follow_faults bytes i (in_list ts ∷ fs) b front f =
-    cond_both (is_blank b) _ _ (Faults bytes i front) (λ _. tt) (λ _. cond_both (b == 44) _ _ (Faults bytes i front) (λ _. tt) (λ _. cond_both (b == 93) _ _ (Faults bytes i front) (λ _. tt) (λ _. (refl, f))))
-follow_faults bytes i (in_object ms ∷ fs) b front f =
-    cond_both (is_blank b) _ _ (Faults bytes i front) (λ _. tt) (λ _. cond_both (b == 44) _ _ (Faults bytes i front) (λ _. tt) (λ _. cond_both (b == 125) _ _ (Faults bytes i front) (λ _. tt) (λ _. (refl, f))))
-follow_faults bytes i (named ms name ∷ fs) b front f = (refl, f)
+follow_faults bytes i fs b front f = cond_both (is_blank b) _ _ (Faults bytes i front) (λ _. tt) (λ _. follow_on_faults bytes i fs b front f)
 
 after_faults : (bytes : List ℕ) (i : ℕ) (fs : List Frame) (t : Tree) (b : ℕ) (front : List ℕ) → BeginsFitting front → Faults bytes i front (after i fs t b)
 unfolding after

@@ -12,9 +12,10 @@ use Rattle.lg_json.specs.Reading.Frame.{in_list, in_object, named}
 use Rattle.lg_json.specs.Reading.Mode.{before_value, before_first, before_first_name, before_name, before_colon, in_word, after_minus, after_zero, in_digits, in_text, after_item, ended}
 use Rattle.lg_json.specs.Before.{BeforeName, BeforeValue}
 use Rattle.lg_json.specs.Fault.{Begins, BeginsFitting}
-use Rattle.lg_json.specs.declared.mode.Role.{Role}
-use Rattle.lg_json.specs.declared.mode.TextMode.{TextMode}
-use Rattle.lg_json.proofs.Standing.{Spelled, ItemStands, EndStands, FirstStands, FirstNameStands, NextNameStands, ColonStands, RoleStands, Stands}
+use Rattle.lg_json.specs.Reading.{Role}
+use Rattle.lg_json.specs.declared.state.TextMode.{TextMode}
+use Rattle.lg_json.specs.Texts.{Spelled}
+use Rattle.lg_json.proofs.Standing.{ItemStands, EndStands, FirstStands, FirstNameStands, NextNameStands, ColonStands, RoleStands, Stands}
 use Rattle.lg_json.proofs.Texts.{spelled_push}
 use Rattle.lg_json.proofs.Names.{differ}
 use Rattle.lg_json.proofs.Sound.{whole_of}

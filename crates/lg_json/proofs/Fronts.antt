@@ -11,7 +11,8 @@ use Rattle.lg_json.specs.Before.{BeforeItem, BeforeName, BeforeNamed, BeforeValu
 use Rattle.lg_json.specs.declared.json.JsonFault.{JsonFault}
 use Rattle.lg_json.specs.declared.json.JsonFault.TheVariants.{TooDeep, Repeated}
 use Rattle.lg_json.proofs.Meets.{Meets, IsOther, Outcome, Any}
-use Rattle.lg_json.proofs.Reaches.{reads_one, reads_at, Passes, past_blanks, value_passes, first_passes, first_name_passes, name_passes, colon_passes, begins, begins_at}
+use Rattle.lg_json.specs.Tokens.{Passes, begins}
+use Rattle.lg_json.proofs.Reaches.{reads_one, reads_at, past_blanks, value_passes, first_passes, first_name_passes, name_passes, colon_passes, begins_at}
 use Rattle.lg_json.proofs.Names.{list_of, entries_of}
 use Rattle.lg_json.proofs.Goes.{Ready, value_ready, first_ready, NameReady, first_name_ready, name_ready, Delimits, comma, items_go, members_go, all_go, members_all_go, value_goes, quoted_reads, begin_list, begin_object, comma_item, comma_member, colon_step}
 

@@ -14,13 +14,14 @@ use Rattle.lg_json.specs.Reading.Mode.{before_value, before_first, before_first_
 use Rattle.lg_json.specs.Fault.{EndsNumber}
 use Rattle.lg_json.specs.declared.json.JsonFault.{JsonFault}
 use Rattle.lg_json.specs.declared.json.JsonFault.TheVariants.{Syntax, NotWhole, TooWide, TooDeep, Repeated}
-use Rattle.lg_json.specs.declared.mode.Role.{Role}
-use Rattle.lg_json.specs.declared.mode.TextMode.{TextMode}
-use Rattle.lg_json.specs.declared.mode.TextMode.TheVariants.{Character}
+use Rattle.lg_json.specs.Reading.{Role}
+use Rattle.lg_json.specs.declared.state.TextMode.{TextMode}
+use Rattle.lg_json.specs.declared.state.TextMode.TheVariants.{Character}
 use Rattle.lg_containers.specs.declared.utf8.Utf8State.TheVariants.{Boundary}
 use Rattle.lg_json.proofs.Meets.{Meets, IsOther, Any, then_on, meets_from, meets_under, meets_before}
 use Rattle.lg_json.proofs.Meets.Meets.{goes, stops}
-use Rattle.lg_json.proofs.Reaches.{reads_one, reads_stop, reads_none, reads_at, blank_test, Passes, past_blanks, value_passes, first_passes, first_name_passes, name_passes, colon_passes, item_passes, member_passes, end_passes, begins, begins_at, value_begins, first_begins, word_null, word_true, word_false, IsInNumber, number_goes}
+use Rattle.lg_json.specs.Tokens.{Passes, begins}
+use Rattle.lg_json.proofs.Reaches.{reads_one, reads_stop, reads_none, reads_at, blank_test, past_blanks, value_passes, first_passes, first_name_passes, name_passes, colon_passes, item_passes, end_passes, begins_at, value_begins, first_begins, word_null, word_true, word_false, IsInNumber, number_goes}
 use Rattle.lg_json.proofs.TextRuns.{chars_run, text_reads}
 use Rattle.lg_json.proofs.Names.{has_name-push, AllNew, new_to_none, all_new_push, list_of, entries_of, trees-list_of, entries-entries_of}
 
@@ -162,7 +163,7 @@ first_brace i fs = refl
 pub items_go : (t : Tree) (us : Trees) → Goes t → AllGo us → (ts : List Tree) (i j : ℕ) (fs : List Frame) (m : Mode) (inner : List ℕ) (e : ℕ) → Delimits e → Ready (in_list ts ∷ fs) m → AreItems (item t us) inner → j ≡ i + length inner
     → Meets (AllFit (room_in (in_list ts ∷ fs)) (item t us)) Any (λ rest. reads i (at (in_list ts ∷ fs) m) (inner ++ e ∷ rest)) (λ rest. reads j (at (in_list (ts ++ list_of (item t us)) ∷ fs) after_item) (e ∷ rest))
 items_go t none g gs ts i j fs m inner e d ready h place =
-    meets_under (λ p. p.0) (padded_goes t g i j (in_list ts ∷ fs) m after_item (in_list (ts ++ t ∷ []) ∷ fs) inner e d ready refl (item_passes (ts ++ t ∷ []) fs) h place)
+    meets_under (λ p. p.0) (padded_goes t g i j (in_list ts ∷ fs) m after_item (in_list (ts ++ t ∷ []) ∷ fs) inner e d ready refl (item_passes (in_list (ts ++ t ∷ []) ∷ fs)) h place)
 items_go t (item u us) g gs ts i j fs m inner e d ready h place =
     let first = h.0 in
     let others = h.1 in
@@ -175,7 +176,7 @@ items_go t (item u us) g gs ts i j fs m inner e d ready h place =
           (λ rest _. ap (λ (l : List ℕ). reads i (at (in_list ts ∷ fs) m) l) (regroup rest))
           (λ rest _. reads_one j1 (frame ∷ fs) after_item 44 ((others ++ e ∷ []) ++ rest) (at (frame ∷ fs) before_value) (comma_item j1 (ts ++ t ∷ []) fs) ∙ ap (λ (l : List ℕ). reads (suc j1) (at (frame ∷ fs) before_value) l) (append_assoc others (e ∷ []) rest))
           (meets_before (others ++ e ∷ []) (λ rest _. tt)
-            (padded_goes t g i j1 (in_list ts ∷ fs) m after_item (frame ∷ fs) first 44 comma ready refl (item_passes (ts ++ t ∷ []) fs) h.2 refl)))
+            (padded_goes t g i j1 (in_list ts ∷ fs) m after_item (frame ∷ fs) first 44 comma ready refl (item_passes (in_list (ts ++ t ∷ []) ∷ fs)) h.2 refl)))
         (meets_from (λ rest _. refl) (λ rest _. ap (λ l. reads j (at (in_list l ∷ fs) after_item) (e ∷ rest)) (append_assoc ts (t ∷ []) (u ∷ list_of us)))
           (items_go u us gs.0 gs.1 (ts ++ t ∷ []) (suc j1) j fs before_value others e d (value_ready (frame ∷ fs)) h.3 (omega arith))))
   where
@@ -265,7 +266,7 @@ member_goes name t g i j ms fs m bytes e d ready h place =
         (λ rest _. ap (λ (l : List ℕ). reads i (at (in_object ms ∷ fs) m) l) (regroup rest))
         (λ rest _. ap (λ (l : List ℕ). reads j1 (at (named ms name ∷ fs) before_value) l) (append_assoc b (e ∷ []) rest))
         (meets_before (b ++ e ∷ []) (λ rest _. tt) (name_goes name a h.2 i j1 ms fs m ready refl)))
-      (padded_goes t g j1 j (named ms name ∷ fs) before_value after_item (in_object (ms ++ (name, t) ∷ []) ∷ fs) b e d (value_ready (named ms name ∷ fs)) refl (member_passes (ms ++ (name, t) ∷ []) fs) h.3 (omega arith))
+      (padded_goes t g j1 j (named ms name ∷ fs) before_value after_item (in_object (ms ++ (name, t) ∷ []) ∷ fs) b e d (value_ready (named ms name ∷ fs)) refl (item_passes (in_object (ms ++ (name, t) ∷ []) ∷ fs)) h.3 (omega arith))
   where
     regroup : (rest : List ℕ) → bytes ++ e ∷ rest ≡ h.0 ++ 58 ∷ ((h.1 ++ e ∷ []) ++ rest)
     regroup rest = rw h.4 (simp append_assoc)

@@ -6,6 +6,7 @@ use Rattle.lg_json.specs.Tree.Tree.{null, truth, whole, part, text, list, member
 use Rattle.lg_json.specs.Grammar.{IsBlank, IsBlankByte, IsDigit, AreDigits, IsPositive, IsInt, IsWhole, number_from, signed, minus_if, InRange}
 use Rattle.lg_json.specs.Reading.{Frame, Mode, State, at, is_blank, is_digit, with_value, complete, begin, follow, after, capped, fits, begins_part, end_number, step, whole_text, finish, and_then, reads}
 use Rattle.lg_json.specs.Fault.{EndsNumber}
+use Rattle.lg_json.specs.Tokens.{Passes, begins}
 use Rattle.lg_json.specs.Reading.Frame.{in_list, in_object, named}
 use Rattle.lg_json.specs.Reading.Mode.{before_value, before_first, before_first_name, before_name, before_colon, in_word, after_minus, after_zero, in_digits, in_text, after_item, ended}
 use Rattle.lg_json.specs.declared.json.JsonFault.{JsonFault}
@@ -36,9 +37,6 @@ blank_test b h = elim h [
   | inr h1 ↦ elim h1 [ inl e ↦ rw e refl | inr h2 ↦ elim h2 [ inl e ↦ rw e refl | inr e ↦ rw e refl ] ]
 ]
 
-pub record Passes (fs : List Frame) (m : Mode) : Type 0 where
-  pub over : (i b : ℕ) → is_blank b ≡ true → step i fs m b ≡ Ok (at fs m)
-
 pub past_blanks : (fs : List Frame) (m : Mode) (blank rest : List ℕ) (i j : ℕ) → Passes fs m → IsBlank blank → j ≡ i + length blank → reads i (at fs m) (blank ++ rest) ≡ reads j (at fs m) rest
 past_blanks fs m [] rest i j p h e = reads_at i j (at fs m) rest (omega arith)
 past_blanks fs m (b ∷ bs) rest i j p h e =
@@ -64,22 +62,13 @@ pub colon_passes : (fs : List Frame) → Passes fs before_colon
 unfolding step
 colon_passes fs = record { over = λ i b e. cond-true (is_blank b) _ _ e }
 
-pub item_passes : (ts : List Tree) (fs : List Frame) → Passes (in_list ts ∷ fs) after_item
+pub item_passes : (fs : List Frame) → Passes fs after_item
 unfolding step
-item_passes ts fs = record { over = λ i b e. cond-true (is_blank b) _ _ e }
-
-pub member_passes : (ms : List Entry) (fs : List Frame) → Passes (in_object ms ∷ fs) after_item
-unfolding step
-member_passes ms fs = record { over = λ i b e. cond-true (is_blank b) _ _ e }
+item_passes fs = record { over = λ i b e. cond-true (is_blank b) _ _ e }
 
 pub end_passes : (fs : List Frame) (t : Tree) → Passes fs (ended t)
 unfolding step
 end_passes fs t = record { over = λ i b e. cond-true (is_blank b) _ _ e }
-
--- a value from its first byte on
-abbrev pub begins : ℕ → List Frame → List ℕ → Result Tree JsonFault
-begins i fs [] = Err (Syntax i)
-begins i fs (b ∷ bs) = and_then (begin i fs b) (λ next. reads (suc i) next bs)
 
 pub begins_at : (i : ℕ) (fs : List Frame) (b : ℕ) (bs : List ℕ) (s : State) → begin i fs b ≡ Ok s → begins i fs (b ∷ bs) ≡ reads (suc i) s bs
 begins_at i fs b bs s e = ap (λ r. and_then r (λ next. reads (suc i) next bs)) e
@@ -143,6 +132,10 @@ unfolding reads step end_number
 number_part b bs i fs negative n p e =
     ap (λ r. and_then r (λ next. reads (suc i) next bs)) (cond-false (is_digit b) _ _ (not_digit_of_part b e) ∙ cond-true (begins_part b) _ _ e)
 
+zero_is_in : (negative : Bool) → fits negative 0 ≡ true
+zero_is_in true = refl
+zero_is_in false = refl
+
 pub zero_ends : (rest : List ℕ) (i : ℕ) (fs : List Frame) (negative : Bool) (p : ℕ) → EndsNumber rest → reads i (at fs (after_zero negative p)) rest ≡ reads i (complete fs (whole (signed negative 0))) rest
 unfolding reads step finish end_number
 zero_ends [] i fs negative p h = sym (finish_complete i fs (whole (signed negative 0)))
@@ -154,6 +147,11 @@ zero_ends (b ∷ bs) i fs negative p h =
     zero_fits true = refl
     zero_fits false = refl
 
+pub zero_then : (b : ℕ) (bs : List ℕ) (i : ℕ) (fs : List Frame) (negative : Bool) (p : ℕ) → begins_part b ≡ false → reads i (at fs (after_zero negative p)) (b ∷ bs) ≡ reads i (complete fs (whole (signed negative 0))) (b ∷ bs)
+unfolding reads step end_number
+zero_then b bs i fs negative p e =
+    ap (λ r. and_then r (λ next. reads (suc i) next bs)) (cond-false (begins_part b) _ _ e ∙ cond-true (fits negative 0) _ _ (zero_is_in negative) ∙ sym (after_complete i fs (whole (signed negative 0)) b))
+
 pub zero_part : (b : ℕ) (bs : List ℕ) (i : ℕ) (fs : List Frame) (negative : Bool) (p : ℕ) → begins_part b ≡ true → reads i (at fs (after_zero negative p)) (b ∷ bs) ≡ Err (NotWhole p)
 unfolding reads step end_number
 zero_part b bs i fs negative p e = ap (λ r. and_then r (λ next. reads (suc i) next bs)) (cond-true (begins_part b) _ _ e)
@@ -164,7 +162,7 @@ more_capped n m d e = omega arith
 pub digit_test : (b : ℕ) → IsDigit b → is_digit b ≡ true
 digit_test b h = and_from (nat_le 48 b) (nat_le b 57) (le-leb 48 b h.0) (le-leb b 57 h.1)
 
-one_digit : (i : ℕ) (fs : List Frame) (negative : Bool) (n p d : ℕ) → is_digit d ≡ true → step i fs (in_digits negative n p) d ≡ Ok (at fs (in_digits negative (capped (n * 10 + (d - 48))) p))
+pub one_digit : (i : ℕ) (fs : List Frame) (negative : Bool) (n p d : ℕ) → is_digit d ≡ true → step i fs (in_digits negative n p) d ≡ Ok (at fs (in_digits negative (capped (n * 10 + (d - 48))) p))
 unfolding step
 one_digit i fs negative n p d e = cond-true (is_digit d) _ _ e
 
@@ -183,11 +181,11 @@ begin_digit i fs d low high =
     cond-false (d == 110) _ _ (ne 110 (inr (omega arith))) ∙ cond-false (d == 116) _ _ (ne 116 (inr (omega arith))) ∙ cond-false (d == 102) _ _ (ne 102 (inr (omega arith))) ∙
     cond-false (d == 45) _ _ (ne 45 (inl (omega arith))) ∙ cond-false (d == 48) _ _ (ne 48 (inl (omega arith))) ∙ cond-true (is_digit d) _ _ (digit_test d (omega arith, high))
 
-minus_zero : (i : ℕ) (fs : List Frame) (p : ℕ) → step i fs (after_minus p) 48 ≡ Ok (at fs (after_zero true p))
+pub minus_zero : (i : ℕ) (fs : List Frame) (p : ℕ) → step i fs (after_minus p) 48 ≡ Ok (at fs (after_zero true p))
 unfolding step
 minus_zero i fs p = refl
 
-minus_digit : (i : ℕ) (fs : List Frame) (p d : ℕ) → 49 ≤ d → d ≤ 57 → step i fs (after_minus p) d ≡ Ok (at fs (in_digits true (d - 48) p))
+pub minus_digit : (i : ℕ) (fs : List Frame) (p d : ℕ) → 49 ≤ d → d ≤ 57 → step i fs (after_minus p) d ≡ Ok (at fs (in_digits true (d - 48) p))
 unfolding step
 minus_digit i fs p d low high = cond-false (d == 48) _ _ (ne_eqb d 48 (λ e. omega arith)) ∙ cond-true (is_digit d) _ _ (digit_test d (omega arith, high))
 

@@ -5,17 +5,18 @@ use Rattle.std.proofs.lemmas.List.{length-append}
 use Rattle.lg_json.specs.Tree.{Tree, Entry, trees, entries}
 use Rattle.lg_json.specs.Tree.Tree.{null, truth, whole, text, list, members}
 use Rattle.lg_json.specs.Grammar.{IsBlank, IsBlankByte, IsDigit, IsPositive, IsInt, IsWhole, number_from, signed, minus_if, Padded, IsString, IsMember, IsValue, AreItems, AreMembers, IsJson}
-use Rattle.lg_json.specs.Reading.{Frame, Mode, State, at, is_blank, is_digit, with_value, complete, open_frame, begin, follow, after, capped, fits, begins_part, end_number, closes, has_name, with_name, end_text, text_step, in_text_step, TextState, word_step, close_empty, begin_name, step, whole_text, finish, and_then, reads, reading}
+use Rattle.lg_json.specs.Reading.{Frame, Mode, State, at, is_blank, is_digit, with_value, complete, open_frame, begin, follow_on, follow, after, capped, fits, begins_part, end_number, closes, has_name, with_name, end_text, text_step, in_text_step, TextState, word_step, close_empty, begin_name, step, whole_text, finish, and_then, reads, reading}
 use Rattle.lg_json.specs.Reading.Frame.{in_list, in_object, named}
 use Rattle.lg_json.specs.Reading.Mode.{before_value, before_first, before_first_name, before_name, before_colon, in_word, after_minus, after_zero, in_digits, in_text, after_item, ended}
 use Rattle.lg_json.specs.Before.{BeforeItem, BeforeName, BeforeNamed, BeforeValue}
 use Rattle.lg_json.specs.declared.json.JsonFault.{JsonFault}
 use Rattle.lg_json.specs.declared.json.JsonFault.TheVariants.{Syntax, NotWhole, TooWide, TooDeep, Repeated}
-use Rattle.lg_json.specs.declared.mode.Role.{Role}
-use Rattle.lg_json.specs.declared.mode.TextMode.{TextMode}
-use Rattle.lg_json.specs.declared.mode.TextMode.TheVariants.{Character, Escape, Unit as UnitMode, AfterHigh, AfterHighEscape, Low}
+use Rattle.lg_json.specs.Reading.{Role}
+use Rattle.lg_json.specs.declared.state.TextMode.{TextMode}
+use Rattle.lg_json.specs.declared.state.TextMode.TheVariants.{Character, Escape, Unit as UnitMode, AfterHigh, AfterHighEscape, Low}
 use Rattle.lg_containers.specs.declared.utf8.Utf8State.TheVariants.{Boundary, Inside}
-use Rattle.lg_json.proofs.Standing.{Spelled, TextStands, DigitsStand, WordStands, MinusStands, ZeroStands, RoleStands, FirstStands, FirstNameStands, NextNameStands, ColonStands, ItemStands, EndStands, Stands, StandsAt}
+use Rattle.lg_json.specs.Texts.{Spelled, TextStands}
+use Rattle.lg_json.proofs.Standing.{DigitsStand, WordStands, MinusStands, ZeroStands, RoleStands, FirstStands, FirstNameStands, NextNameStands, ColonStands, ItemStands, EndStands, Stands, StandsAt}
 use Rattle.lg_json.proofs.Lists.{blank_byte, digit_byte, all_snoc, blank_snoc, snoc, snoc2, snoc3, padded, padded_snoc, items_snoc, members_snoc, items_push, members_push}
 use Rattle.lg_json.proofs.Texts.{spelled_none, TextGoesOn, text_goes_on}
 
@@ -76,23 +77,32 @@ begin_keeps i fs b front place before =
     (λ _. cond_both (b == 48) _ _ (Keeps (front ++ b ∷ [])) (λ e. (front, before, place, last_is front b 48 e))
     (λ ne. cond_both (is_digit b) _ _ (Keeps (front ++ b ∷ [])) (λ e. digits_begin (BeforeValue fs) false i i b front front before place (sym (append-nil front)) e ne) (λ _. tt)))))))))
 
-pub follow_keeps : (i : ℕ) (fs : List Frame) (b : ℕ) (front : List ℕ) → ItemStands fs front → Keeps (front ++ b ∷ []) (follow i fs b)
-follow_keeps i [] b front s = absurd s
-follow_keeps i (in_list [] ∷ fs) b front s = absurd s
-follow_keeps i (in_list (t ∷ ts) ∷ fs) b front s =
-    cond_both (is_blank b) _ _ (Keeps (front ++ b ∷ [])) (λ e. (s.0, s.1 ++ b ∷ [], s.2, items_snoc t ts s.1 b (blank_byte b e) s.3, snoc front s.0 (91 ∷ s.1) b s.4))
-    (λ _. cond_both (b == 44) _ _ (Keeps (front ++ b ∷ [])) (λ e. (s.0, s.1, [], s.2, s.3, tt, last_is front b 44 e ∙ snoc front s.0 (91 ∷ s.1) 44 s.4))
+item_blank : (fs : List Frame) (b : ℕ) (front : List ℕ) → IsBlankByte b → ItemStands fs front → ItemStands fs (front ++ b ∷ [])
+item_blank [] b front blank s = absurd s
+item_blank (in_list [] ∷ fs) b front blank s = absurd s
+item_blank (in_list (t ∷ ts) ∷ fs) b front blank s = (s.0, s.1 ++ b ∷ [], s.2, items_snoc t ts s.1 b blank s.3, snoc front s.0 (91 ∷ s.1) b s.4)
+item_blank (in_object [] ∷ fs) b front blank s = absurd s
+item_blank (in_object (m ∷ ms) ∷ fs) b front blank s = (s.0, s.1 ++ b ∷ [], s.2, members_snoc m ms s.1 b blank s.3, snoc front s.0 (123 ∷ s.1) b s.4)
+item_blank (named ms name ∷ fs) b front blank s = absurd s
+
+follow_on_keeps : (i : ℕ) (fs : List Frame) (b : ℕ) (front : List ℕ) → ItemStands fs front → Keeps (front ++ b ∷ []) (follow_on i fs b)
+follow_on_keeps i [] b front s = absurd s
+follow_on_keeps i (in_list [] ∷ fs) b front s = absurd s
+follow_on_keeps i (in_list (t ∷ ts) ∷ fs) b front s =
+    cond_both (b == 44) _ _ (Keeps (front ++ b ∷ [])) (λ e. (s.0, s.1, [], s.2, s.3, tt, last_is front b 44 e ∙ snoc front s.0 (91 ∷ s.1) 44 s.4))
     (λ _. cond_both (b == 93) _ _ (Keeps (front ++ b ∷ []))
       (λ e. completed fs (list (trees (t ∷ ts))) (front ++ b ∷ []) s.0 (91 ∷ (s.1 ++ 93 ∷ [])) (last_is front b 93 e ∙ snoc front s.0 (91 ∷ s.1) 93 s.4) s.2 (s.1, s.3, refl))
-      (λ _. tt)))
-follow_keeps i (in_object [] ∷ fs) b front s = absurd s
-follow_keeps i (in_object (m ∷ ms) ∷ fs) b front s =
-    cond_both (is_blank b) _ _ (Keeps (front ++ b ∷ [])) (λ e. (s.0, s.1 ++ b ∷ [], s.2, members_snoc m ms s.1 b (blank_byte b e) s.3, snoc front s.0 (123 ∷ s.1) b s.4))
-    (λ _. cond_both (b == 44) _ _ (Keeps (front ++ b ∷ [])) (λ e. (s.0, s.1, [], s.2, s.3, tt, last_is front b 44 e ∙ snoc front s.0 (123 ∷ s.1) 44 s.4))
+      (λ _. tt))
+follow_on_keeps i (in_object [] ∷ fs) b front s = absurd s
+follow_on_keeps i (in_object (m ∷ ms) ∷ fs) b front s =
+    cond_both (b == 44) _ _ (Keeps (front ++ b ∷ [])) (λ e. (s.0, s.1, [], s.2, s.3, tt, last_is front b 44 e ∙ snoc front s.0 (123 ∷ s.1) 44 s.4))
     (λ _. cond_both (b == 125) _ _ (Keeps (front ++ b ∷ []))
       (λ e. completed fs (members (entries (m ∷ ms))) (front ++ b ∷ []) s.0 (123 ∷ (s.1 ++ 125 ∷ [])) (last_is front b 125 e ∙ snoc front s.0 (123 ∷ s.1) 125 s.4) s.2 (s.1, s.3, refl))
-      (λ _. tt)))
-follow_keeps i (named ms name ∷ fs) b front s = absurd s
+      (λ _. tt))
+follow_on_keeps i (named ms name ∷ fs) b front s = absurd s
+
+pub follow_keeps : (i : ℕ) (fs : List Frame) (b : ℕ) (front : List ℕ) → ItemStands fs front → Keeps (front ++ b ∷ []) (follow i fs b)
+follow_keeps i fs b front s = cond_both (is_blank b) _ _ (Keeps (front ++ b ∷ [])) (λ e. item_blank fs b front (blank_byte b e) s) (λ _. follow_on_keeps i fs b front s)
 
 pub after_keeps : (i : ℕ) (fs : List Frame) (t : Tree) (b : ℕ) (front outer word : List ℕ) → front ≡ outer ++ word → BeforeValue fs outer → IsValue t word → Keeps (front ++ b ∷ []) (after i fs t b)
 unfolding after

@@ -16,9 +16,9 @@ use Rattle.lg_json.specs.Grammar.IsChar.{unescaped, short, unit, surrogates}
 use Rattle.lg_json.specs.Reading.{Frame, Mode, State, at, TextState, hex_more, joined, character_step, unit_step, low_step, text_step, closes, is_high, step, and_then, reads}
 use Rattle.lg_json.specs.Reading.Mode.{in_text}
 use Rattle.lg_json.specs.declared.json.JsonFault.{JsonFault}
-use Rattle.lg_json.specs.declared.mode.Role.{Role}
-use Rattle.lg_json.specs.declared.mode.TextMode.{TextMode}
-use Rattle.lg_json.specs.declared.mode.TextMode.TheVariants.{Character, Escape, Unit as UnitMode, AfterHigh, AfterHighEscape, Low}
+use Rattle.lg_json.specs.Reading.{Role}
+use Rattle.lg_json.specs.declared.state.TextMode.{TextMode}
+use Rattle.lg_json.specs.declared.state.TextMode.TheVariants.{Character, Escape, Unit as UnitMode, AfterHigh, AfterHighEscape, Low}
 use Rattle.lg_json.proofs.Reaches.{reads_one, reads_at}
 use Rattle.lg_json.proofs.Texts.{joined_is}
 
@@ -38,7 +38,7 @@ runs_then (x ∷ xs) b t u v m k l h g = (h.0, go (text_step t m x) h.1 (λ s q.
     go None q f = absurd q
     go (Some s) q f = f s q
 
-one_step : (i : ℕ) (fs : List Frame) (role : Role) (t : List ℕ) (m : TextMode) (b : ℕ) (s : TextState) → closes m b ≡ false → text_step t m b ≡ Some s → step i fs (in_text role t m) b ≡ Ok (at fs (in_text role s.0 s.1))
+pub one_step : (i : ℕ) (fs : List Frame) (role : Role) (t : List ℕ) (m : TextMode) (b : ℕ) (s : TextState) → closes m b ≡ false → text_step t m b ≡ Some s → step i fs (in_text role t m) b ≡ Ok (at fs (in_text role s.0 s.1))
 unfolding step
 one_step i fs role t m b s open_still e = cond-false (closes m b) _ _ open_still ∙ rw e refl
 
@@ -53,7 +53,7 @@ text_reads (b ∷ bs) rest i j fs role t u m k h e = go (text_step t m b) refl h
     go (Some s) f q ih = reads_one i fs (in_text role t m) b (bs ++ rest) (at fs (in_text role s.0 s.1)) (one_step i fs role t m b s h.0 f) ∙ ih s q
 
 -- a character that stands for itself
-ascii_step : (t : List ℕ) (c : ℕ) → 32 ≤ c → c < 128 → (c ≡ 92 → ⊥) → text_step t (Character Boundary) c ≡ Some (t ++ c ∷ [], Character Boundary)
+pub ascii_step : (t : List ℕ) (c : ℕ) → 32 ≤ c → c < 128 → (c ≡ 92 → ⊥) → text_step t (Character Boundary) c ≡ Some (t ++ c ∷ [], Character Boundary)
 unfolding text_step
 ascii_step t c low high ne =
     cond-false (c == 92) _ _ (ne_eqb c 92 ne) ∙ cond-false (nat_lt c 32) _ _ (le-ltb c 32 low) ∙ ap (character_step t c) (step_at_boundary c ∙ lead_ascii c high)
@@ -78,7 +78,7 @@ part_runs (b ∷ bs) t (Inside low high left) h = go (utf8_step (Inside low high
         runs_one t (Character (Inside low high left)) b bs (t ++ b ∷ bs) (Character Boundary) (t ++ b ∷ [], Character next) refl (inside_step t b low high left next e)
           (subst (λ (l : List ℕ). TextRuns (t ++ b ∷ []) (Character next) bs l (Character Boundary)) (append_assoc t (b ∷ []) bs) (ih next q))
 
-ne_test : (b k : ℕ) → (b ≡ k → ⊥) → (b == k) ≡ false
+pub ne_test : (b k : ℕ) → (b ≡ k → ⊥) → (b == k) ≡ false
 ne_test b k h = ne_eqb b k h
 
 plain_runs : (t : List ℕ) (c : ℕ) → IsScalar c → 32 ≤ c → (c ≡ 34 → ⊥) → (c ≡ 92 → ⊥) → TextRuns t (Character Boundary) (encode_utf8 c) (t ++ encode_utf8 c) (Character Boundary)

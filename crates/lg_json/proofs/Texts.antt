@@ -14,9 +14,9 @@ use Rattle.lg_json.specs.Grammar.{IsHexDigit, hex_number, IsUnit, IsHigh, IsLow,
 use Rattle.lg_json.specs.Grammar.IsShort.{quote, backslash, slash, backspace, form_feed, line_feed, carriage_return, tab}
 use Rattle.lg_json.specs.Grammar.IsChar.{unescaped, short, unit, surrogates}
 use Rattle.lg_json.specs.Reading.{TextState, hex_more, joined, character_step, escape_step, unit_step, low_step, text_step, short_escape, closes, is_high}
-use Rattle.lg_json.specs.declared.mode.TextMode.{TextMode}
-use Rattle.lg_json.specs.declared.mode.TextMode.TheVariants.{Character, Escape, Unit as UnitMode, AfterHigh, AfterHighEscape, Low}
-use Rattle.lg_json.proofs.Standing.{Spelled, IsNoLow, UnitDigits, LowDigits, TextStands}
+use Rattle.lg_json.specs.declared.state.TextMode.{TextMode}
+use Rattle.lg_json.specs.declared.state.TextMode.TheVariants.{Character, Escape, Unit as UnitMode, AfterHigh, AfterHighEscape, Low}
+use Rattle.lg_json.specs.Texts.{Spelled, IsNoLow, UnitDigits, LowDigits, TextStands}
 use Rattle.lg_json.proofs.Lists.{snoc, snoc2, snoc3}
 
 -- one more character

@@ -8,7 +8,8 @@ use Rattle.lg_json.specs.Fault.{EndsNumber}
 use Rattle.lg_json.specs.declared.json.JsonFault.{JsonFault}
 use Rattle.lg_json.proofs.Meets.{Meets, IsOther}
 use Rattle.lg_json.proofs.Meets.Meets.{goes, stops}
-use Rattle.lg_json.proofs.Reaches.{reads_none, past_blanks, value_passes, end_passes, begins}
+use Rattle.lg_json.specs.Tokens.{begins}
+use Rattle.lg_json.proofs.Reaches.{reads_none, past_blanks, value_passes, end_passes}
 use Rattle.lg_json.proofs.Goes.{room_in, starts_word, head_of, value_ready, blank_ends, value_goes}
 
 -- a text of the grammar is read as its value, or meets a fault of what doesn't fit

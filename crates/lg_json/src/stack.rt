@@ -1,4 +1,4 @@
-ghost use Rattle.std.specs.Prelude.{◌≡◌, [], ◌∷◌, length, IfOk, MatchOption};
+ghost use Rattle.std.specs.Prelude.{◌≡◌, [], ◌∷◌, length, slice_get, IfOk, MatchOption, option_copied};
 
 use std::alloc::{AllocError, Global};
 use std::marker::Model;
@@ -33,6 +33,13 @@ impl<T> Stack<T> {
         ensures { result ≡ length self.now }
     {
         self.from_bottom.len()
+    }
+
+    /// The item on top.
+    pub fn top(&self) -> Option<&T>
+        ensures { option_copied result ≡ slice_get self.now 0 }
+    {
+        self.from_bottom.last()
     }
 }
 

@@ -13,14 +13,6 @@ pub enum Frame {
     Named(Items<Member>, Text),
 }
 
-/// What a text is read for.
-#[derive(Clone, Copy)]
-pub enum Role {
-    Value,
-    /// A member's name, with the place of its first quote.
-    Name(usize),
-}
-
 /// Where the reading of a text stands, between its quotes.
 #[derive(Clone, Copy)]
 pub enum TextMode {
@@ -37,32 +29,25 @@ pub enum TextMode {
     Low(u16, u8, u16),
 }
 
-/// What comes next. Where a number is read, the last part is the place of its first byte.
+/// What comes next.
 #[derive(Drop)]
-pub enum Mode {
-    BeforeValue,
-    /// After `[`.
-    BeforeFirst,
-    /// After `{`.
-    BeforeFirstName,
-    BeforeName,
-    BeforeColon,
-    /// In a word: what is left of it, and its value.
-    InWord(&'static [u8], Json),
-    AfterMinus(usize),
-    AfterZero(bool, usize),
-    /// In a number: whether it is negative, and the value of the digits so far.
-    InDigits(bool, u128, usize),
-    InText(Role, Vec<u8>, TextMode),
-    /// After an item of the innermost list or a member of the innermost object.
-    AfterItem,
-    /// After the whole value.
-    Ended(Json),
+pub enum Next {
+    Value,
+    /// A list's first item, or its end.
+    First,
+    /// An object's first name, or its end.
+    FirstName,
+    Name,
+    Colon,
+    /// After an item of a list or a member of an object.
+    Comma,
+    /// Nothing: the whole value.
+    End(Json),
 }
 
 /// Where the reading stands: what is open, the innermost first, and what comes next.
 #[derive(Drop)]
 pub struct State {
     pub frames: Stack<Frame>,
-    pub mode: Mode,
+    pub next: Next,
 }
