@@ -133,6 +133,7 @@ goal_unit t done inner more a b c d s ha hb hc hd low e = elim (cases_lt u 55296
   where
     u : ℕ
     u = hex_number a b c d
+
     whole : IsUnit u (92 ∷ 117 ∷ a ∷ b ∷ c ∷ d ∷ [])
     whole = unit_of a b c d ha hb hc hd
 
@@ -150,13 +151,13 @@ goal_digits t done inner (a ∷ b ∷ []) n u s h e =
     let hb : digit_value b < 16 = h.2 in
     let v : u ≡ digit_value a * 16 + digit_value b = h.3 in
     goal_unit t done inner (48 ∷ 48 ∷ []) a b 48 48 s h.1 h.2 zero_digit zero_digit
-      (λ l. let l0 : 56320 ≤ ((digit_value a * 16 + digit_value b) * 16 + 0) * 16 + 0 = l.0 in let l1 : ((digit_value a * 16 + digit_value b) * 16 + 0) * 16 + 0 ≤ 57343 = l.1 in elim h.4 [ inl k ↦ omega arith | inr k ↦ omega arith ]) (rw e (simp append_assoc))
+    (λ l. let l0 : 56320 ≤ ((digit_value a * 16 + digit_value b) * 16 + 0) * 16 + 0 = l.0 in let l1 : ((digit_value a * 16 + digit_value b) * 16 + 0) * 16 + 0 ≤ 57343 = l.1 in elim h.4 [ inl k ↦ omega arith | inr k ↦ omega arith ]) (rw e (simp append_assoc))
 goal_digits t done inner (a ∷ b ∷ c ∷ []) n u s h e =
     let ha : digit_value a < 16 = h.1 in
     let hb : digit_value b < 16 = h.2 in
     let hc : digit_value c < 16 = h.3 in
     goal_unit t done inner (48 ∷ []) a b c 48 s h.1 h.2 h.3 zero_digit
-      (λ l. let l0 : 56320 ≤ ((digit_value a * 16 + digit_value b) * 16 + digit_value c) * 16 + 0 = l.0 in let l1 : ((digit_value a * 16 + digit_value b) * 16 + digit_value c) * 16 + 0 ≤ 57343 = l.1 in elim h.5 [ inl k ↦ omega arith | inr k ↦ omega arith ]) (rw e (simp append_assoc))
+    (λ l. let l0 : 56320 ≤ ((digit_value a * 16 + digit_value b) * 16 + digit_value c) * 16 + 0 = l.0 in let l1 : ((digit_value a * 16 + digit_value b) * 16 + digit_value c) * 16 + 0 ≤ 57343 = l.1 in elim h.5 [ inl k ↦ omega arith | inr k ↦ omega arith ]) (rw e (simp append_assoc))
 goal_digits t done inner (a ∷ b ∷ c ∷ d ∷ ds) n u s h e = absurd h
 
 goal_low_digits : (t done front inner digits : List ℕ) (hi n u : ℕ) → Spelled t done → IsHigh hi → IsUnit hi front → LowDigits n u digits → inner ≡ done ++ (front ++ 92 ∷ 117 ∷ digits) → Goal inner

@@ -109,14 +109,20 @@ two_values bytes t f e g = let h : Ok t ≡ Err f = sym e ∙ g in cc
 
 part_of : (n : ℤ) (number : List ℕ) (c : ℕ) → IsWhole n number → begins_part c ≡ true → IsPart (number ++ c ∷ 48 ∷ [])
 part_of n number c w e =
-    let zero : (48 ≤ 48) × (48 ≤ 57) × Unit {0} = (omega arith, omega arith, tt) in
-    (n, number, c ∷ 48 ∷ [], w, elim (or_cases _ (c == 69) e) [
-      | inl f ↦ elim (or_cases (c == 46) (c == 101) f) [
-        | inl g ↦ inl (48 ∷ [], ((omega arith, omega arith), tt), ap (λ k. k ∷ 48 ∷ []) (eqb-true c 46 g))
-        | inr g ↦ inr (inl (c, [], 48 ∷ [], inl (eqb-true c 101 g), inl refl, ((omega arith, omega arith), tt), refl))
-      ]
-      | inr f ↦ inr (inl (c, [], 48 ∷ [], inr (eqb-true c 69 f), inl refl, ((omega arith, omega arith), tt), refl))
-    ], refl)
+    let zero : (48 ≤ 48) × (48 ≤ 57) × Unit {0} = (omega arith, omega arith, tt) in (
+      n,
+      number,
+      c ∷ 48 ∷ [],
+      w,
+      elim (or_cases _ (c == 69) e) [
+        | inl f ↦ elim (or_cases (c == 46) (c == 101) f) [
+          | inl g ↦ inl (48 ∷ [], ((omega arith, omega arith), tt), ap (λ k. k ∷ 48 ∷ []) (eqb-true c 46 g))
+          | inr g ↦ inr (inl (c, [], 48 ∷ [], inl (eqb-true c 101 g), inl refl, ((omega arith, omega arith), tt), refl))
+        ]
+        | inr f ↦ inr (inl (c, [], 48 ∷ [], inr (eqb-true c 69 f), inl refl, ((omega arith, omega arith), tt), refl))
+      ],
+      refl,
+    )
 
 not_whole_first : (bytes : List ℕ) (k p : ℕ) → IsSyntax bytes k → IsNotWhole bytes p → ⊥
 not_whole_first bytes k p s h =
@@ -132,7 +138,7 @@ not_whole_first bytes k p s h =
     let f = s.2 in
     let tail = take (k - length front) rest ++ f.0 in
     two_values (take k bytes ++ f.0) f.1 (NotWhole p) (json_value f.1 _ f.3 f.2)
-      (each_not_whole (take k bytes ++ f.0) p (fs, outer, number, tail, h.4, c, h.6, h.7, h.8, beyond bytes front rest f.0 k e low ∙ simp append_assoc))
+    (each_not_whole (take k bytes ++ f.0) p (fs, outer, number, tail, h.4, c, h.6, h.7, h.8, beyond bytes front rest f.0 k e low ∙ simp append_assoc))
 
 too_wide_first : (bytes : List ℕ) (k p : ℕ) → IsSyntax bytes k → IsTooWide bytes p → ⊥
 too_wide_first bytes k p s h =
@@ -164,7 +170,7 @@ too_deep_first bytes k p s h =
     let f = s.2 in
     let tail = take (k - length front) rest ++ f.0 in
     two_values (take k bytes ++ f.0) f.1 (TooDeep p) (json_value f.1 _ f.3 f.2)
-      (each_too_deep (take k bytes ++ f.0) p (fs, outer, tail, c, h.4, h.5, h.6, beyond bytes front rest f.0 k e low ∙ simp append_assoc))
+    (each_too_deep (take k bytes ++ f.0) p (fs, outer, tail, c, h.4, h.5, h.6, beyond bytes front rest f.0 k e low ∙ simp append_assoc))
 
 repeated_first : (bytes : List ℕ) (k p : ℕ) → IsSyntax bytes k → IsRepeated bytes p → ⊥
 repeated_first bytes k p s h =
@@ -177,7 +183,7 @@ repeated_first bytes k p s h =
     let f = s.2 in
     let tail = take (k - length front) rest ++ f.0 in
     two_values (take k bytes ++ f.0) f.1 (Repeated p) (json_value f.1 _ f.3 f.2)
-      (each_repeated (take k bytes ++ f.0) p (h.0, h.1, outer, h.3, quoted, tail, h.6, h.7, h.8, h.9, h.10, beyond bytes front rest f.0 k e low ∙ append_assoc outer quoted tail))
+    (each_repeated (take k bytes ++ f.0) p (h.0, h.1, outer, h.3, quoted, tail, h.6, h.7, h.8, h.9, h.10, beyond bytes front rest f.0 k e low ∙ append_assoc outer quoted tail))
 
 same_front : (bytes : List ℕ) (j k : ℕ) → IsLongestFront bytes j → IsLongestFront bytes k → j ≡ k
 same_front bytes j k a b = elim (cases_lt j k) [

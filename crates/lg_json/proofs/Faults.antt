@@ -57,9 +57,9 @@ unfolding begin
 begin_faults i fs b front rest place h s =
     cond_both (b == 34) _ _ (Faults (front ++ b ∷ rest) i front) (λ _. tt)
     (λ _. cond_both (b == 91) _ _ (Faults (front ++ b ∷ rest) i front)
-      (λ e. cond_both (nat_lt (length fs) 64) _ _ (Faults (front ++ b ∷ rest) i front) (λ _. tt) (λ full. deep i fs b front rest place h s full (inl (eqb-true b 91 e))))
+    (λ e. cond_both (nat_lt (length fs) 64) _ _ (Faults (front ++ b ∷ rest) i front) (λ _. tt) (λ full. deep i fs b front rest place h s full (inl (eqb-true b 91 e))))
     (λ _. cond_both (b == 123) _ _ (Faults (front ++ b ∷ rest) i front)
-      (λ e. cond_both (nat_lt (length fs) 64) _ _ (Faults (front ++ b ∷ rest) i front) (λ _. tt) (λ full. deep i fs b front rest place h s full (inr (eqb-true b 123 e))))
+    (λ e. cond_both (nat_lt (length fs) 64) _ _ (Faults (front ++ b ∷ rest) i front) (λ _. tt) (λ full. deep i fs b front rest place h s full (inr (eqb-true b 123 e))))
     (λ _. cond_both (b == 110) _ _ (Faults (front ++ b ∷ rest) i front) (λ _. tt)
     (λ _. cond_both (b == 116) _ _ (Faults (front ++ b ∷ rest) i front) (λ _. tt)
     (λ _. cond_both (b == 102) _ _ (Faults (front ++ b ∷ rest) i front) (λ _. tt)
@@ -95,17 +95,27 @@ end_faults i fs negative n p b front outer digits rest h s place is_int v e no_d
     let before : Before fs p outer = record { stands = s; fitting = before_fitting fs outer h s; place = place } in
     let same : front ++ b ∷ rest ≡ outer ++ ((minus_if negative ++ digits) ++ b ∷ rest) = rw e (append_assoc outer (minus_if negative ++ digits) (b ∷ rest)) in
     cond_both (begins_part b) _ _ (Faults (front ++ b ∷ rest) i front)
-      (λ f. (fs, outer, minus_if negative ++ digits, rest, signed negative (number_from 0 digits), b, before, whole_number negative digits is_int, f, same))
-      (λ no_part. cond_both (fits negative n) _ _ (Faults (front ++ b ∷ rest) i front)
-        (λ f. after_faults (front ++ b ∷ rest) i fs (whole (signed negative n)) b front (fitting f))
-        (λ wide. (fs, outer, minus_if negative ++ digits, b ∷ rest, signed negative (number_from 0 digits), before, whole_number negative digits is_int, out_of_range negative n (number_from 0 digits) v wide,
-          (elim no_digit [ inl f ↦ f | inr f ↦ absurd (false≢true (sym wide ∙ f)) ], no_part), same)))
+    (λ f. (fs, outer, minus_if negative ++ digits, rest, signed negative (number_from 0 digits), b, before, whole_number negative digits is_int, f, same))
+    (λ no_part. cond_both (fits negative n) _ _ (Faults (front ++ b ∷ rest) i front)
+    (λ f. after_faults (front ++ b ∷ rest) i fs (whole (signed negative n)) b front (fitting f))
+    (λ wide. (
+      fs,
+      outer,
+      minus_if negative ++ digits,
+      b ∷ rest,
+      signed negative (number_from 0 digits),
+      before,
+      whole_number negative digits is_int,
+      out_of_range negative n (number_from 0 digits) v wide,
+      (elim no_digit [ inl f ↦ f | inr f ↦ absurd (false≢true (sym wide ∙ f)) ], no_part),
+      same,
+    )))
 
 digits_faults : (i : ℕ) (fs : List Frame) (negative : Bool) (n p b : ℕ) (front rest : List ℕ) → FramesFit fs → DigitsStand (BeforeValue fs) negative n p front → Faults (front ++ b ∷ rest) i front (step i fs (in_digits negative n p) b)
 unfolding step
 digits_faults i fs negative n p b front rest h s =
     cond_both (is_digit b) _ _ (Faults (front ++ b ∷ rest) i front) (λ _. tt)
-      (λ no_digit. end_faults i fs negative n p b front s.outer s.digits rest h s.before s.first (inr s.positive) s.value s.parts (inl no_digit) (λ f. stands_fitting fs (in_digits negative n p) front h tt f s))
+    (λ no_digit. end_faults i fs negative n p b front s.outer s.digits rest h s.before s.first (inr s.positive) s.value s.parts (inl no_digit) (λ f. stands_fitting fs (in_digits negative n p) front h tt f s))
 
 word_faults : (bytes : List ℕ) (i : ℕ) (fs : List Frame) (word : List ℕ) (t : Tree) (b : ℕ) (front : List ℕ) → BeginsFitting front → Faults bytes i front (word_step i fs word t b)
 word_faults bytes i fs [] t b front f = (refl, f)
@@ -130,15 +140,15 @@ text_faults i (in_list ts ∷ fs) (Role.Name q) t front rest h s = absurd s
 text_faults i (named ms other ∷ fs) (Role.Name q) t front rest h s = absurd s
 text_faults i (in_object ms ∷ fs) (Role.Name q) t front rest h s =
     cond_both (has_name t ms) _ _ (Faults (front ++ 34 ∷ rest) i front)
-      (λ e. (fs, ms, s.0, t, 34 ∷ (s.1 ++ 34 ∷ []), rest, s.2, before_name_fitting fs ms s.0 h s.2, s.3, string_of t s.1 s.4, not_new t ms e, rw s.5 (simp append_assoc)))
-      (λ _. tt)
+    (λ e. (fs, ms, s.0, t, 34 ∷ (s.1 ++ 34 ∷ []), rest, s.2, before_name_fitting fs ms s.0 h s.2, s.3, string_of t s.1 s.4, not_new t ms e, rw s.5 (simp append_assoc)))
+    (λ _. tt)
 
 role_faults : (i : ℕ) (fs : List Frame) (role : Role) (t : List ℕ) (m : TextMode) (b : ℕ) (front rest : List ℕ) → FramesFit fs → RoleStands fs role t m front → BeginsFitting front → Faults (front ++ b ∷ rest) i front (step i fs (in_text role t m) b)
 unfolding step
 role_faults i fs role t m b front rest h s f =
     cond_both (closes m b) _ _ (Faults (front ++ b ∷ rest) i front)
-      (λ e. let c = closes_at m b e in rw c.byte (text_faults i fs role t front rest h (subst (λ k. RoleStands fs role t k front) c.mode s)))
-      (λ _. in_text_faults (front ++ b ∷ rest) i fs role (text_step t m b) front f)
+    (λ e. let c = closes_at m b e in rw c.byte (text_faults i fs role t front rest h (subst (λ k. RoleStands fs role t k front) c.mode s)))
+    (λ _. in_text_faults (front ++ b ∷ rest) i fs role (text_step t m b) front f)
 
 first_faults : (i : ℕ) (fs : List Frame) (b : ℕ) (front rest : List ℕ) → i ≡ length front → FramesFit fs → FirstStands fs front → BeginsFitting front → Faults (front ++ b ∷ rest) i front (step i fs before_first b)
 unfolding step
@@ -184,9 +194,19 @@ unfolding finish
 finish_faults i fs (after_zero negative p) front h f s = whole_faults front i fs (whole (signed negative 0)) front (stands_fitting fs (after_zero negative p) front h f tt s)
 finish_faults i fs (in_digits negative n p) front h f s =
     cond_both (fits negative n) _ _ (Faults front i front)
-      (λ e. whole_faults front i fs (whole (signed negative n)) front (stands_fitting fs (in_digits negative n p) front h f e s))
-      (λ wide. (fs, s.outer, minus_if negative ++ s.digits, [], signed negative (number_from 0 s.digits), record { stands = s.before; fitting = before_fitting fs s.outer h s.before; place = s.first },
-        whole_number negative s.digits (inr s.positive), out_of_range negative n (number_from 0 s.digits) s.value wide, tt, s.parts ∙ ap (λ (l : List ℕ). s.outer ++ l) (sym (append-nil (minus_if negative ++ s.digits)))))
+    (λ e. whole_faults front i fs (whole (signed negative n)) front (stands_fitting fs (in_digits negative n p) front h f e s))
+    (λ wide. (
+      fs,
+      s.outer,
+      minus_if negative ++ s.digits,
+      [],
+      signed negative (number_from 0 s.digits),
+      record { stands = s.before; fitting = before_fitting fs s.outer h s.before; place = s.first },
+      whole_number negative s.digits (inr s.positive),
+      out_of_range negative n (number_from 0 s.digits) s.value wide,
+      tt,
+      s.parts ∙ ap (λ (l : List ℕ). s.outer ++ l) (sym (append-nil (minus_if negative ++ s.digits))),
+    ))
 finish_faults i fs (ended t) front h f s = tt
 finish_faults i fs before_value front h f s = (refl, stands_fitting fs before_value front h f tt s)
 finish_faults i fs before_first front h f s = (refl, stands_fitting fs before_first front h f tt s)
@@ -222,11 +242,13 @@ stuck front i b bs s place reached fitting stops =
   where
     front_is : take i (front ++ b ∷ bs) ≡ front
     front_is = take_at front (b ∷ bs) i (sym place)
+
     longest : (m : ℕ) → i < m → m ≤ length (front ++ b ∷ bs) → Begins (take m (front ++ b ∷ bs)) → ⊥
     longest m above within h =
         let k = m - suc (length front) in
         let e : take m (front ++ b ∷ bs) ≡ front ++ b ∷ take k bs = take_past front (b ∷ bs) m (suc k) (omega arith) in
         no_syntax h.1 (front ++ b ∷ (take k bs ++ h.0)) i (subst (IsJson h.1) (ap (λ (l : List ℕ). l ++ h.0) e ∙ append_assoc front (b ∷ take k bs) h.0) h.2) (reached.over (b ∷ (take k bs ++ h.0)) ∙ stops (take k bs ++ h.0))
+
     not_json : NotJson (front ++ b ∷ bs)
     not_json t h = no_syntax t (front ++ b ∷ bs) i h (reached.over (b ∷ bs) ∙ stops bs)
 
@@ -237,6 +259,7 @@ stuck_at_end front i s place reached fitting stops =
   where
     front_is : take i front ≡ front
     front_is = ap (take i) (sym (append-nil front)) ∙ take_at front [] i (sym place)
+
     not_json : NotJson front
     not_json t h = no_syntax t front i h (ap reading (sym (append-nil front)) ∙ reached.over [] ∙ stops)
 
@@ -251,7 +274,7 @@ reads_end i s = refl
 from_step : (front : List ℕ) (i b : ℕ) (bs : List ℕ) (s : State) (f : JsonFault) → i ≡ length front → Reached front i s → step i s.frames s.mode b ≡ Err f → StepFault (front ++ b ∷ bs) i front f → IsFault (front ++ b ∷ bs) f
 from_step front i b bs s (Syntax p) place reached e h =
     subst (IsSyntax (front ++ b ∷ bs)) (sym h.0)
-      (stuck front i b bs s place reached h.1 (λ more. reads_step i s b more ∙ ap (λ r. and_then r (λ next. reads (suc i) next more)) (e ∙ ap (λ k. Err (Syntax k)) h.0)))
+    (stuck front i b bs s place reached h.1 (λ more. reads_step i s b more ∙ ap (λ r. and_then r (λ next. reads (suc i) next more)) (e ∙ ap (λ k. Err (Syntax k)) h.0)))
 from_step front i b bs s (NotWhole p) place reached e h = h
 from_step front i b bs s (TooWide p) place reached e h = h
 from_step front i b bs s (TooDeep p) place reached e h = h
@@ -275,8 +298,8 @@ reads_faults [] front i s place h fit reached =
     go (Err f) e k = from_finish front i s f place reached e k
 reads_faults (b ∷ bs) front i s place h fit reached =
     subst (λ r. IfErr r (IsFault (front ++ b ∷ bs))) (sym (reads_step i s b bs))
-      (go (step i s.frames s.mode b) refl (step_keeps i s.frames s.mode b front place h) (step_fits i s.frames s.mode b fit.0 fit.1) (step_faults i s.frames s.mode b front bs place fit.0 fit.1 h)
-        (λ next k j r. subst (λ l. IfErr (reads (suc i) next bs) (IsFault l)) (append_assoc front (b ∷ []) bs) (reads_faults bs (front ++ b ∷ []) (suc i) next (omega (arith, length-append front (b ∷ []))) k j r)))
+    (go (step i s.frames s.mode b) refl (step_keeps i s.frames s.mode b front place h) (step_fits i s.frames s.mode b fit.0 fit.1) (step_faults i s.frames s.mode b front bs place fit.0 fit.1 h)
+    (λ next k j r. subst (λ l. IfErr (reads (suc i) next bs) (IsFault l)) (append_assoc front (b ∷ []) bs) (reads_faults bs (front ++ b ∷ []) (suc i) next (omega (arith, length-append front (b ∷ []))) k j r)))
   where
     go : (r : Result State JsonFault) → step i s.frames s.mode b ≡ r → Keeps (front ++ b ∷ []) r → IfOk r StateFits → Faults (front ++ b ∷ bs) i front r
         → ((next : State) → StandsAt (front ++ b ∷ []) next → StateFits next → Reached (front ++ b ∷ []) (suc i) next → IfErr (reads (suc i) next bs) (IsFault (front ++ b ∷ bs)))

@@ -40,7 +40,7 @@ spelled_letters (suc n) t inner s =
     let p = spelled_push t inner (97 ∷ []) 97 s (unescaped 97 (97 ∷ []) (low_scalar 97 (omega arith)) (omega arith) (omega arith) (omega arith) (sym e)) in
     let q : Spelled (t ++ 97 ∷ []) (inner ++ 97 ∷ []) = subst (λ (l : List ℕ). Spelled (t ++ l) (inner ++ 97 ∷ [])) e p in
     subst (λ (l : List ℕ). Spelled l (inner ++ 97 ∷ replicate n 97)) (append_assoc t (97 ∷ []) (replicate n 97))
-      (subst (λ (l : List ℕ). Spelled ((t ++ 97 ∷ []) ++ replicate n 97) l) (append_assoc inner (97 ∷ []) (replicate n 97)) (spelled_letters n (t ++ 97 ∷ []) (inner ++ 97 ∷ []) q))
+    (subst (λ (l : List ℕ). Spelled ((t ++ 97 ∷ []) ++ replicate n 97) l) (append_assoc inner (97 ∷ []) (replicate n 97)) (spelled_letters n (t ++ 97 ∷ []) (inner ++ 97 ∷ []) q))
 
 string_of : (t inner : List ℕ) → Spelled t inner → IsString t (34 ∷ (inner ++ 34 ∷ []))
 string_of t inner s = record { chars = s.chars; inner = inner; spelled = s.spelled; value = s.value; parts = refl }
@@ -59,7 +59,7 @@ name_fitting fs ms outer name quoted h b s new =
 pub name_begins : (fs : List Frame) (ms : List Entry) (outer name quoted : List ℕ) → BeforeName (BeforeValue fs) ms outer → IsString name quoted → Begins (outer ++ quoted)
 name_begins fs ms outer name quoted b s =
     begins_prefix (outer ++ quoted) (58 ∷ []) (begins_as _ _ (colon_at_end outer quoted)
-      (begins_prefix (outer ++ (quoted ++ 58 ∷ [])) (110 ∷ 117 ∷ 108 ∷ 108 ∷ []) (value_begins (named ms name ∷ fs) null (outer ++ (quoted ++ 58 ∷ [])) (110 ∷ 117 ∷ 108 ∷ 108 ∷ []) (outer, quoted, [], [], b, s, tt, tt, refl) refl)))
+    (begins_prefix (outer ++ (quoted ++ 58 ∷ [])) (110 ∷ 117 ∷ 108 ∷ 108 ∷ []) (value_begins (named ms name ∷ fs) null (outer ++ (quoted ++ 58 ∷ [])) (110 ∷ 117 ∷ 108 ∷ 108 ∷ []) (outer, quoted, [], [], b, s, tt, tt, refl) refl)))
 
 -- inside a name: with enough letters more it is new
 in_name_fitting : (fs : List Frame) (ms : List Entry) (outer inner : List ℕ) → FramesFit (in_object ms ∷ fs) → BeforeName (BeforeValue fs) ms outer → Goal inner → BeginsFitting (outer ++ 34 ∷ inner)
@@ -71,12 +71,12 @@ in_name_fitting fs ms outer inner h b g =
     let long : length name ≡ length g.t + n = length-append g.t letters ∙ ap (λ k. length g.t + k) (length-replicate n 97) in
     let quoted = 34 ∷ (((inner ++ g.more) ++ letters) ++ 34 ∷ []) in
     fitting_prefix (outer ++ 34 ∷ inner) (g.more ++ (letters ++ 34 ∷ []))
-      (fitting_as _ (outer ++ quoted) (simp append_assoc) (name_fitting fs ms outer name quoted h b (string_of name ((inner ++ g.more) ++ letters) spelled) (longer_is_new name ms (omega arith))))
+    (fitting_as _ (outer ++ quoted) (simp append_assoc) (name_fitting fs ms outer name quoted h b (string_of name ((inner ++ g.more) ++ letters) spelled) (longer_is_new name ms (omega arith))))
 
 in_text_fitting : (fs : List Frame) (outer inner : List ℕ) → FramesFit fs → BeforeValue fs outer → Goal inner → BeginsFitting (outer ++ 34 ∷ inner)
 in_text_fitting fs outer inner h b g =
     fitting_prefix (outer ++ 34 ∷ inner) (g.more ++ 34 ∷ [])
-      (fitting_as _ (outer ++ (34 ∷ ((inner ++ g.more) ++ 34 ∷ []))) (simp append_assoc) (value_fitting fs (text g.t) outer (34 ∷ ((inner ++ g.more) ++ 34 ∷ [])) h tt b (string_of g.t (inner ++ g.more) g.spelled)))
+    (fitting_as _ (outer ++ (34 ∷ ((inner ++ g.more) ++ 34 ∷ []))) (simp append_assoc) (value_fitting fs (text g.t) outer (34 ∷ ((inner ++ g.more) ++ 34 ∷ [])) h tt b (string_of g.t (inner ++ g.more) g.spelled)))
 
 -- a letter as a name, before one
 pub before_name_fitting : (fs : List Frame) (ms : List Entry) (outer : List ℕ) → FramesFit (in_object ms ∷ fs) → BeforeName (BeforeValue fs) ms outer → BeginsFitting outer
@@ -117,7 +117,7 @@ colon_fitting (in_list ts ∷ fs) front h s = absurd s
 colon_fitting (in_object ms ∷ fs) front h s = absurd s
 colon_fitting (named ms name ∷ fs) front h s =
     fitting_prefix front (58 ∷ [])
-      (fitting_as _ _ (rw s.6 (simp append_assoc)) (before_fitting (named ms name ∷ fs) (s.0 ++ (s.1 ++ (s.2 ++ 58 ∷ []))) h (s.0, s.1, s.2, [], s.3, s.4, s.5, tt, refl)))
+    (fitting_as _ _ (rw s.6 (simp append_assoc)) (before_fitting (named ms name ∷ fs) (s.0 ++ (s.1 ++ (s.2 ++ 58 ∷ []))) h (s.0, s.1, s.2, [], s.3, s.4, s.5, tt, refl)))
 
 less : (n : ℕ) → (64 - n) - 1 ≡ 64 - suc n
 less n = omega arith
@@ -128,12 +128,12 @@ item_fitting (in_list [] ∷ fs) front h s = absurd s
 item_fitting (in_list (t ∷ ts) ∷ fs) front h s =
     let below : length fs < 64 = h.0 in
     fitting_prefix front (93 ∷ [])
-      (fitting_as _ _ (rw s.4 (simp append_assoc)) (value_fitting fs (list (trees (t ∷ ts))) s.0 (91 ∷ (s.1 ++ 93 ∷ [])) h.2 (omega arith, subst (λ r. AllFit r (trees (t ∷ ts))) (sym (less (length fs))) h.1) s.2 (s.1, s.3, refl)))
+    (fitting_as _ _ (rw s.4 (simp append_assoc)) (value_fitting fs (list (trees (t ∷ ts))) s.0 (91 ∷ (s.1 ++ 93 ∷ [])) h.2 (omega arith, subst (λ r. AllFit r (trees (t ∷ ts))) (sym (less (length fs))) h.1) s.2 (s.1, s.3, refl)))
 item_fitting (in_object [] ∷ fs) front h s = absurd s
 item_fitting (in_object (m ∷ ms) ∷ fs) front h s =
     let below : length fs < 64 = h.0 in
     fitting_prefix front (125 ∷ [])
-      (fitting_as _ _ (rw s.4 (simp append_assoc)) (value_fitting fs (members (entries (m ∷ ms))) s.0 (123 ∷ (s.1 ++ 125 ∷ [])) h.2 (omega arith, subst (λ r. MembersFit r (entries (m ∷ ms))) (sym (less (length fs))) h.1) s.2 (s.1, s.3, refl)))
+    (fitting_as _ _ (rw s.4 (simp append_assoc)) (value_fitting fs (members (entries (m ∷ ms))) s.0 (123 ∷ (s.1 ++ 125 ∷ [])) h.2 (omega arith, subst (λ r. MembersFit r (entries (m ∷ ms))) (sym (less (length fs))) h.1) s.2 (s.1, s.3, refl)))
 item_fitting (named ms name ∷ fs) front h s = absurd s
 
 end_fitting : (fs : List Frame) (t : Tree) (front : List ℕ) → Fits 64 t → EndStands fs t front → BeginsFitting front

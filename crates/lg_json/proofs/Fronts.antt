@@ -73,40 +73,40 @@ Comes front fs m = Leads (λ rest. reading (front ++ rest)) (λ rest. reads (len
 list_opens : (fs : List Frame) (outer : List ℕ) → Comes outer fs (opening fs) → Leads (λ rest. reading (outer ++ 91 ∷ rest)) (λ rest. reads (suc (length outer)) (at (in_list [] ∷ fs) before_first) rest)
 list_opens fs outer c =
     leads_on (leads_before (91 ∷ []) c)
-      (elim (cases_Bool (nat_lt (length fs) 64)) [
-        | inl room ↦ leads (λ rest. (opening_ready fs).starts (length outer) 91 rest refl refl ∙ begins_at (length outer) fs 91 rest _ (begin_list (length outer) fs ∙ cond-true (nat_lt (length fs) 64) _ _ room))
-        | inr full ↦ faults (TooDeep (length outer)) tt (λ rest. (opening_ready fs).starts (length outer) 91 rest refl refl ∙ ap (λ r. and_then r (λ next. reads (suc (length outer)) next rest)) (begin_list (length outer) fs ∙ cond-false (nat_lt (length fs) 64) _ _ full))
-      ])
+    (elim (cases_Bool (nat_lt (length fs) 64)) [
+      | inl room ↦ leads (λ rest. (opening_ready fs).starts (length outer) 91 rest refl refl ∙ begins_at (length outer) fs 91 rest _ (begin_list (length outer) fs ∙ cond-true (nat_lt (length fs) 64) _ _ room))
+      | inr full ↦ faults (TooDeep (length outer)) tt (λ rest. (opening_ready fs).starts (length outer) 91 rest refl refl ∙ ap (λ r. and_then r (λ next. reads (suc (length outer)) next rest)) (begin_list (length outer) fs ∙ cond-false (nat_lt (length fs) 64) _ _ full))
+    ])
 
 object_opens : (fs : List Frame) (outer : List ℕ) → Comes outer fs (opening fs) → Leads (λ rest. reading (outer ++ 123 ∷ rest)) (λ rest. reads (suc (length outer)) (at (in_object [] ∷ fs) before_first_name) rest)
 object_opens fs outer c =
     leads_on (leads_before (123 ∷ []) c)
-      (elim (cases_Bool (nat_lt (length fs) 64)) [
-        | inl room ↦ leads (λ rest. (opening_ready fs).starts (length outer) 123 rest refl refl ∙ begins_at (length outer) fs 123 rest _ (begin_object (length outer) fs ∙ cond-true (nat_lt (length fs) 64) _ _ room))
-        | inr full ↦ faults (TooDeep (length outer)) tt (λ rest. (opening_ready fs).starts (length outer) 123 rest refl refl ∙ ap (λ r. and_then r (λ next. reads (suc (length outer)) next rest)) (begin_object (length outer) fs ∙ cond-false (nat_lt (length fs) 64) _ _ full))
-      ])
+    (elim (cases_Bool (nat_lt (length fs) 64)) [
+      | inl room ↦ leads (λ rest. (opening_ready fs).starts (length outer) 123 rest refl refl ∙ begins_at (length outer) fs 123 rest _ (begin_object (length outer) fs ∙ cond-true (nat_lt (length fs) 64) _ _ room))
+      | inr full ↦ faults (TooDeep (length outer)) tt (λ rest. (opening_ready fs).starts (length outer) 123 rest refl refl ∙ ap (λ r. and_then r (λ next. reads (suc (length outer)) next rest)) (begin_object (length outer) fs ∙ cond-false (nat_lt (length fs) 64) _ _ full))
+    ])
 
 item_comes : (fs : List Frame) (ts : List Tree) (front : List ℕ) → ((outer : List ℕ) → BeforeValue fs outer → Comes outer fs (opening fs)) → BeforeItem (BeforeValue fs) ts front → Comes front (in_list ts ∷ fs) (opening (in_list ts ∷ fs))
 item_comes fs [] front ih b =
     let total : length front ≡ length b.0 + suc (length b.1) = ap length b.4 ∙ length-append b.0 (91 ∷ b.1) in
     leads_from
-      (λ rest. ap (λ (l : List ℕ). reading (l ++ rest)) b.4 ∙ ap reading (append_assoc b.0 (91 ∷ b.1) rest))
-      (λ rest. past_blanks (in_list [] ∷ fs) before_first b.1 rest (suc (length b.0)) (length front) (first_passes _) b.3 (omega arith))
-      (leads_before b.1 (list_opens fs b.0 (ih b.0 b.2)))
+    (λ rest. ap (λ (l : List ℕ). reading (l ++ rest)) b.4 ∙ ap reading (append_assoc b.0 (91 ∷ b.1) rest))
+    (λ rest. past_blanks (in_list [] ∷ fs) before_first b.1 rest (suc (length b.0)) (length front) (first_passes _) b.3 (omega arith))
+    (leads_before b.1 (list_opens fs b.0 (ih b.0 b.2)))
 item_comes fs (t ∷ ts) front ih b =
     let total : length front ≡ length b.0 + suc (length (b.1 ++ 44 ∷ b.2)) = ap length b.6 ∙ length-append b.0 (91 ∷ (b.1 ++ 44 ∷ b.2)) in
     let total2 : length (b.1 ++ 44 ∷ b.2) ≡ length b.1 + suc (length b.2) = length-append b.1 (44 ∷ b.2) in
     let i1 = suc (length b.0) in
     let j1 = i1 + length b.1 in
     leads_from
-      (λ rest. ap (λ (l : List ℕ). reading (l ++ rest)) b.6 ∙ ap reading (regroup rest))
-      (λ rest. ap (λ us. reads j1 (at (in_list us ∷ fs) after_item) (44 ∷ (b.2 ++ rest))) (list_of-trees (t ∷ ts))
-        ∙ reads_one j1 (in_list (t ∷ ts) ∷ fs) after_item 44 (b.2 ++ rest) (at (in_list (t ∷ ts) ∷ fs) before_value) (comma_item j1 (t ∷ ts) fs)
-        ∙ past_blanks (in_list (t ∷ ts) ∷ fs) before_value b.2 rest (suc j1) (length front) (value_passes _) b.5 (omega arith))
-      (leads_on
-        (leads_before (b.1 ++ 44 ∷ b.2) (list_opens fs b.0 (ih b.0 b.3)))
-        (leads_from (λ rest. ap (λ (l : List ℕ). reads i1 (at (in_list [] ∷ fs) before_first) l) (append_assoc b.1 (44 ∷ b.2) rest)) (λ rest. refl)
-          (leads_before b.2 (without (items_go t (trees ts) (value_goes t) (all_go (trees ts)) [] i1 j1 fs before_first b.1 44 comma (first_ready (in_list [] ∷ fs)) b.4 refl)))))
+    (λ rest. ap (λ (l : List ℕ). reading (l ++ rest)) b.6 ∙ ap reading (regroup rest))
+    (λ rest. ap (λ us. reads j1 (at (in_list us ∷ fs) after_item) (44 ∷ (b.2 ++ rest))) (list_of-trees (t ∷ ts))
+    ∙ reads_one j1 (in_list (t ∷ ts) ∷ fs) after_item 44 (b.2 ++ rest) (at (in_list (t ∷ ts) ∷ fs) before_value) (comma_item j1 (t ∷ ts) fs)
+    ∙ past_blanks (in_list (t ∷ ts) ∷ fs) before_value b.2 rest (suc j1) (length front) (value_passes _) b.5 (omega arith))
+    (leads_on
+    (leads_before (b.1 ++ 44 ∷ b.2) (list_opens fs b.0 (ih b.0 b.3)))
+    (leads_from (λ rest. ap (λ (l : List ℕ). reads i1 (at (in_list [] ∷ fs) before_first) l) (append_assoc b.1 (44 ∷ b.2) rest)) (λ rest. refl)
+    (leads_before b.2 (without (items_go t (trees ts) (value_goes t) (all_go (trees ts)) [] i1 j1 fs before_first b.1 44 comma (first_ready (in_list [] ∷ fs)) b.4 refl)))))
   where
     regroup : (rest : List ℕ) → (b.0 ++ 91 ∷ (b.1 ++ 44 ∷ b.2)) ++ rest ≡ b.0 ++ 91 ∷ ((b.1 ++ 44 ∷ b.2) ++ rest)
     regroup rest = append_assoc b.0 (91 ∷ (b.1 ++ 44 ∷ b.2)) rest
@@ -115,23 +115,23 @@ name_comes : (fs : List Frame) (ms : List Entry) (front : List ℕ) → ((outer 
 name_comes fs [] front ih b =
     let total : length front ≡ length b.0 + suc (length b.1) = ap length b.4 ∙ length-append b.0 (123 ∷ b.1) in
     leads_from
-      (λ rest. ap (λ (l : List ℕ). reading (l ++ rest)) b.4 ∙ ap reading (append_assoc b.0 (123 ∷ b.1) rest))
-      (λ rest. past_blanks (in_object [] ∷ fs) before_first_name b.1 rest (suc (length b.0)) (length front) (first_name_passes _) b.3 (omega arith))
-      (leads_before b.1 (object_opens fs b.0 (ih b.0 b.2)))
+    (λ rest. ap (λ (l : List ℕ). reading (l ++ rest)) b.4 ∙ ap reading (append_assoc b.0 (123 ∷ b.1) rest))
+    (λ rest. past_blanks (in_object [] ∷ fs) before_first_name b.1 rest (suc (length b.0)) (length front) (first_name_passes _) b.3 (omega arith))
+    (leads_before b.1 (object_opens fs b.0 (ih b.0 b.2)))
 name_comes fs (m ∷ ms) front ih b =
     let total : length front ≡ length b.0 + suc (length (b.1 ++ 44 ∷ b.2)) = ap length b.6 ∙ length-append b.0 (123 ∷ (b.1 ++ 44 ∷ b.2)) in
     let total2 : length (b.1 ++ 44 ∷ b.2) ≡ length b.1 + suc (length b.2) = length-append b.1 (44 ∷ b.2) in
     let i1 = suc (length b.0) in
     let j1 = i1 + length b.1 in
     leads_from
-      (λ rest. ap (λ (l : List ℕ). reading (l ++ rest)) b.6 ∙ ap reading (append_assoc b.0 (123 ∷ (b.1 ++ 44 ∷ b.2)) rest))
-      (λ rest. ap (λ us. reads j1 (at (in_object us ∷ fs) after_item) (44 ∷ (b.2 ++ rest))) (entries_of-entries (m ∷ ms))
-        ∙ reads_one j1 (in_object (m ∷ ms) ∷ fs) after_item 44 (b.2 ++ rest) (at (in_object (m ∷ ms) ∷ fs) before_name) (comma_member j1 (m ∷ ms) fs)
-        ∙ past_blanks (in_object (m ∷ ms) ∷ fs) before_name b.2 rest (suc j1) (length front) (name_passes _) b.5 (omega arith))
-      (leads_on
-        (leads_before (b.1 ++ 44 ∷ b.2) (object_opens fs b.0 (ih b.0 b.3)))
-        (leads_from (λ rest. ap (λ (l : List ℕ). reads i1 (at (in_object [] ∷ fs) before_first_name) l) (append_assoc b.1 (44 ∷ b.2) rest)) (λ rest. refl)
-          (leads_before b.2 (without (members_go m.0 m.1 (entries ms) (value_goes m.1) (members_all_go (entries ms)) [] i1 j1 fs before_first_name b.1 44 comma (first_name_ready (in_object [] ∷ fs)) b.4 refl)))))
+    (λ rest. ap (λ (l : List ℕ). reading (l ++ rest)) b.6 ∙ ap reading (append_assoc b.0 (123 ∷ (b.1 ++ 44 ∷ b.2)) rest))
+    (λ rest. ap (λ us. reads j1 (at (in_object us ∷ fs) after_item) (44 ∷ (b.2 ++ rest))) (entries_of-entries (m ∷ ms))
+    ∙ reads_one j1 (in_object (m ∷ ms) ∷ fs) after_item 44 (b.2 ++ rest) (at (in_object (m ∷ ms) ∷ fs) before_name) (comma_member j1 (m ∷ ms) fs)
+    ∙ past_blanks (in_object (m ∷ ms) ∷ fs) before_name b.2 rest (suc j1) (length front) (name_passes _) b.5 (omega arith))
+    (leads_on
+    (leads_before (b.1 ++ 44 ∷ b.2) (object_opens fs b.0 (ih b.0 b.3)))
+    (leads_from (λ rest. ap (λ (l : List ℕ). reads i1 (at (in_object [] ∷ fs) before_first_name) l) (append_assoc b.1 (44 ∷ b.2) rest)) (λ rest. refl)
+    (leads_before b.2 (without (members_go m.0 m.1 (entries ms) (value_goes m.1) (members_all_go (entries ms)) [] i1 j1 fs before_first_name b.1 44 comma (first_name_ready (in_object [] ∷ fs)) b.4 refl)))))
 
 -- a name up to its closing quote
 name_ends : (fs : List Frame) (ms : List Entry) (name quoted : List ℕ) → IsString name quoted → (i k : ℕ) → suc k ≡ i + length quoted → Leads (λ rest. reads i (at (in_object ms ∷ fs) (name_opening ms)) (quoted ++ rest)) (λ rest. reads (suc k) (at (named ms name ∷ fs) before_colon) rest)
@@ -151,15 +151,15 @@ named_comes fs ms name front ih b =
     let k = i1 + length (b.5.inner ++ 34 ∷ []) in
     let total : length front ≡ length before + (length quoted + (length gap + suc (length blank))) = ap length b.8 ∙ length-append before (quoted ++ (gap ++ 58 ∷ blank)) ∙ ap (λ n. length before + n) (length-append quoted (gap ++ 58 ∷ blank) ∙ ap (λ n. length quoted + n) (length-append gap (58 ∷ blank))) in
     leads_from
-      (λ rest. ap (λ (l : List ℕ). reading (l ++ rest)) b.8 ∙ ap reading (regroup rest))
-      (λ rest. ap (λ (l : List ℕ). reads (suc k) (at (named ms name ∷ fs) before_colon) l) (append_assoc gap (58 ∷ blank) rest)
-        ∙ past_blanks (named ms name ∷ fs) before_colon gap (58 ∷ (blank ++ rest)) (suc k) (suc k + length gap) (colon_passes _) b.6 refl
-        ∙ reads_one (suc k + length gap) (named ms name ∷ fs) before_colon 58 (blank ++ rest) (at (named ms name ∷ fs) before_value) (colon_step _ _)
-        ∙ past_blanks (named ms name ∷ fs) before_value blank rest (suc (suc k + length gap)) (length front) (value_passes _) b.7 (omega arith))
-      (leads_on
-        (leads_before (quoted ++ (gap ++ 58 ∷ blank)) (name_comes fs ms before ih b.4))
-        (leads_from (λ rest. ap (λ (l : List ℕ). reads i1 (at (in_object ms ∷ fs) (name_opening ms)) l) (append_assoc quoted (gap ++ 58 ∷ blank) rest)) (λ rest. refl)
-          (leads_before (gap ++ 58 ∷ blank) (name_ends fs ms name quoted b.5 i1 k (omega arith)))))
+    (λ rest. ap (λ (l : List ℕ). reading (l ++ rest)) b.8 ∙ ap reading (regroup rest))
+    (λ rest. ap (λ (l : List ℕ). reads (suc k) (at (named ms name ∷ fs) before_colon) l) (append_assoc gap (58 ∷ blank) rest)
+    ∙ past_blanks (named ms name ∷ fs) before_colon gap (58 ∷ (blank ++ rest)) (suc k) (suc k + length gap) (colon_passes _) b.6 refl
+    ∙ reads_one (suc k + length gap) (named ms name ∷ fs) before_colon 58 (blank ++ rest) (at (named ms name ∷ fs) before_value) (colon_step _ _)
+    ∙ past_blanks (named ms name ∷ fs) before_value blank rest (suc (suc k + length gap)) (length front) (value_passes _) b.7 (omega arith))
+    (leads_on
+    (leads_before (quoted ++ (gap ++ 58 ∷ blank)) (name_comes fs ms before ih b.4))
+    (leads_from (λ rest. ap (λ (l : List ℕ). reads i1 (at (in_object ms ∷ fs) (name_opening ms)) l) (append_assoc quoted (gap ++ 58 ∷ blank) rest)) (λ rest. refl)
+    (leads_before (gap ++ 58 ∷ blank) (name_ends fs ms name quoted b.5 i1 k (omega arith)))))
   where
     regroup : (rest : List ℕ) → (b.0 ++ (b.1 ++ (b.2 ++ 58 ∷ b.3))) ++ rest ≡ b.0 ++ ((b.1 ++ (b.2 ++ 58 ∷ b.3)) ++ rest)
     regroup rest = append_assoc b.0 (b.1 ++ (b.2 ++ 58 ∷ b.3)) rest

@@ -127,9 +127,9 @@ padded_goes t g i j fs m k gs bytes e d ready same passes h place =
     let i1 = i + length before in
     let j1 = i1 + length inner in
     meets_from
-      (λ rest _. ap (λ (l : List ℕ). reads i (at fs m) l) (regroup rest) ∙ past_blanks fs m before (inner ++ ((after ++ e ∷ []) ++ rest)) i i1 ready.passes h.3 refl ∙ starts_word fs m inner ((after ++ e ∷ []) ++ rest) i1 ready (head_of t inner h.4))
-      (λ rest _. ap (λ (l : List ℕ). reads j1 (complete fs t) l) (append_assoc after (e ∷ []) rest) ∙ ap (λ s. reads j1 s (after ++ e ∷ rest)) same ∙ past_blanks gs k after (e ∷ rest) j1 j passes h.5 (omega arith))
-      (meets_before (after ++ e ∷ []) (λ rest _. ends_after after e rest h.5 d) (g i1 j1 fs inner h.4 refl))
+    (λ rest _. ap (λ (l : List ℕ). reads i (at fs m) l) (regroup rest) ∙ past_blanks fs m before (inner ++ ((after ++ e ∷ []) ++ rest)) i i1 ready.passes h.3 refl ∙ starts_word fs m inner ((after ++ e ∷ []) ++ rest) i1 ready (head_of t inner h.4))
+    (λ rest _. ap (λ (l : List ℕ). reads j1 (complete fs t) l) (append_assoc after (e ∷ []) rest) ∙ ap (λ s. reads j1 s (after ++ e ∷ rest)) same ∙ past_blanks gs k after (e ∷ rest) j1 j passes h.5 (omega arith))
+    (meets_before (after ++ e ∷ []) (λ rest _. ends_after after e rest h.5 d) (g i1 j1 fs inner h.4 refl))
   where
     regroup : (rest : List ℕ) → bytes ++ e ∷ rest ≡ h.0 ++ (h.1 ++ ((h.2 ++ e ∷ []) ++ rest))
     regroup rest = rw h.6 (simp append_assoc)
@@ -171,14 +171,14 @@ items_go t (item u us) g gs ts i j fs m inner e d ready h place =
     let total : length inner ≡ length first + suc (length others) = ap length h.4 ∙ length-append first (44 ∷ others) in
     let frame = in_list (ts ++ t ∷ []) in
     meets_under (λ p. (p.0, p.1))
-      (then_on
-        (meets_from
-          (λ rest _. ap (λ (l : List ℕ). reads i (at (in_list ts ∷ fs) m) l) (regroup rest))
-          (λ rest _. reads_one j1 (frame ∷ fs) after_item 44 ((others ++ e ∷ []) ++ rest) (at (frame ∷ fs) before_value) (comma_item j1 (ts ++ t ∷ []) fs) ∙ ap (λ (l : List ℕ). reads (suc j1) (at (frame ∷ fs) before_value) l) (append_assoc others (e ∷ []) rest))
-          (meets_before (others ++ e ∷ []) (λ rest _. tt)
-            (padded_goes t g i j1 (in_list ts ∷ fs) m after_item (frame ∷ fs) first 44 comma ready refl (item_passes (in_list (ts ++ t ∷ []) ∷ fs)) h.2 refl)))
-        (meets_from (λ rest _. refl) (λ rest _. ap (λ l. reads j (at (in_list l ∷ fs) after_item) (e ∷ rest)) (append_assoc ts (t ∷ []) (u ∷ list_of us)))
-          (items_go u us gs.0 gs.1 (ts ++ t ∷ []) (suc j1) j fs before_value others e d (value_ready (frame ∷ fs)) h.3 (omega arith))))
+    (then_on
+    (meets_from
+    (λ rest _. ap (λ (l : List ℕ). reads i (at (in_list ts ∷ fs) m) l) (regroup rest))
+    (λ rest _. reads_one j1 (frame ∷ fs) after_item 44 ((others ++ e ∷ []) ++ rest) (at (frame ∷ fs) before_value) (comma_item j1 (ts ++ t ∷ []) fs) ∙ ap (λ (l : List ℕ). reads (suc j1) (at (frame ∷ fs) before_value) l) (append_assoc others (e ∷ []) rest))
+    (meets_before (others ++ e ∷ []) (λ rest _. tt)
+    (padded_goes t g i j1 (in_list ts ∷ fs) m after_item (frame ∷ fs) first 44 comma ready refl (item_passes (in_list (ts ++ t ∷ []) ∷ fs)) h.2 refl)))
+    (meets_from (λ rest _. refl) (λ rest _. ap (λ l. reads j (at (in_list l ∷ fs) after_item) (e ∷ rest)) (append_assoc ts (t ∷ []) (u ∷ list_of us)))
+    (items_go u us gs.0 gs.1 (ts ++ t ∷ []) (suc j1) j fs before_value others e d (value_ready (frame ∷ fs)) h.3 (omega arith))))
   where
     regroup : (rest : List ℕ) → inner ++ e ∷ rest ≡ h.0 ++ 44 ∷ ((h.1 ++ e ∷ []) ++ rest)
     regroup rest = rw h.4 (simp append_assoc)
@@ -236,18 +236,25 @@ name_goes name a h i j ms fs m ready place = elim (cases_Bool (has_name name ms)
   where
     i1 : ℕ
     i1 = i + length h.0
+
     k : ℕ
     k = i1 + length h.4.inner + 1
+
     total : length a ≡ length h.0 + (length h.1 + length h.2)
     total = ap length h.6 ∙ length-append h.0 (h.1 ++ h.2) ∙ ap (λ n. length h.0 + n) (length-append h.1 h.2)
+
     quoted_length : length h.1 ≡ length h.4.inner + 2
     quoted_length = let e : length h.1 ≡ suc (length (h.4.inner ++ 34 ∷ [])) = ap length h.4.parts in omega (arith, length-append h.4.inner (34 ∷ []))
+
     quote_place : suc k ≡ i1 + length h.1
     quote_place = omega (arith, quoted_length)
+
     last_place : suc (suc k + length h.2) ≡ j
     last_place = omega (arith, total, quoted_length)
+
     regroup : (rest : List ℕ) → a ++ 58 ∷ rest ≡ h.0 ++ (h.1 ++ (h.2 ++ 58 ∷ rest))
     regroup rest = rw h.6 (simp append_assoc)
+
     to_quote : (rest : List ℕ) → reads i (at (in_object ms ∷ fs) m) (a ++ 58 ∷ rest) ≡ and_then (with_name k i1 (in_object ms ∷ fs) name) (λ next. reads (suc k) next (h.2 ++ 58 ∷ rest))
     to_quote rest =
         ap (λ (l : List ℕ). reads i (at (in_object ms ∷ fs) m) l) (regroup rest)
@@ -262,11 +269,11 @@ member_goes name t g i j ms fs m bytes e d ready h place =
     let j1 = i + suc (length a) in
     let total : length bytes ≡ length a + suc (length b) = ap length h.4 ∙ length-append a (58 ∷ b) in
     then_on
-      (meets_from
-        (λ rest _. ap (λ (l : List ℕ). reads i (at (in_object ms ∷ fs) m) l) (regroup rest))
-        (λ rest _. ap (λ (l : List ℕ). reads j1 (at (named ms name ∷ fs) before_value) l) (append_assoc b (e ∷ []) rest))
-        (meets_before (b ++ e ∷ []) (λ rest _. tt) (name_goes name a h.2 i j1 ms fs m ready refl)))
-      (padded_goes t g j1 j (named ms name ∷ fs) before_value after_item (in_object (ms ++ (name, t) ∷ []) ∷ fs) b e d (value_ready (named ms name ∷ fs)) refl (item_passes (in_object (ms ++ (name, t) ∷ []) ∷ fs)) h.3 (omega arith))
+    (meets_from
+    (λ rest _. ap (λ (l : List ℕ). reads i (at (in_object ms ∷ fs) m) l) (regroup rest))
+    (λ rest _. ap (λ (l : List ℕ). reads j1 (at (named ms name ∷ fs) before_value) l) (append_assoc b (e ∷ []) rest))
+    (meets_before (b ++ e ∷ []) (λ rest _. tt) (name_goes name a h.2 i j1 ms fs m ready refl)))
+    (padded_goes t g j1 j (named ms name ∷ fs) before_value after_item (in_object (ms ++ (name, t) ∷ []) ∷ fs) b e d (value_ready (named ms name ∷ fs)) refl (item_passes (in_object (ms ++ (name, t) ∷ []) ∷ fs)) h.3 (omega arith))
   where
     regroup : (rest : List ℕ) → bytes ++ e ∷ rest ≡ h.0 ++ 58 ∷ ((h.1 ++ e ∷ []) ++ rest)
     regroup rest = rw h.4 (simp append_assoc)
@@ -283,13 +290,13 @@ members_go name t (member other u us) g gs ms i j fs m inner e d ready h place =
     let total : length inner ≡ length first + suc (length others) = ap length h.4 ∙ length-append first (44 ∷ others) in
     let frame = in_object (ms ++ (name, t) ∷ []) in
     meets_under (λ p. ((p.0.0, p.1.1), (all_new_push ms name t (member other u us) p.0.1 p.1.0, p.1.2)))
-      (then_on
-        (meets_from
-          (λ rest _. ap (λ (l : List ℕ). reads i (at (in_object ms ∷ fs) m) l) (regroup rest))
-          (λ rest _. reads_one j1 (frame ∷ fs) after_item 44 ((others ++ e ∷ []) ++ rest) (at (frame ∷ fs) before_name) (comma_member j1 (ms ++ (name, t) ∷ []) fs) ∙ ap (λ (l : List ℕ). reads (suc j1) (at (frame ∷ fs) before_name) l) (append_assoc others (e ∷ []) rest))
-          (meets_before (others ++ e ∷ []) (λ rest _. tt) (member_goes name t g i j1 ms fs m first 44 comma ready h.2 refl)))
-        (meets_from (λ rest _. refl) (λ rest _. ap (λ l. reads j (at (in_object l ∷ fs) after_item) (e ∷ rest)) (append_assoc ms ((name, t) ∷ []) ((other, u) ∷ entries_of us)))
-          (members_go other u us gs.0 gs.1 (ms ++ (name, t) ∷ []) (suc j1) j fs before_name others e d (name_ready (frame ∷ fs)) h.3 (omega arith))))
+    (then_on
+    (meets_from
+    (λ rest _. ap (λ (l : List ℕ). reads i (at (in_object ms ∷ fs) m) l) (regroup rest))
+    (λ rest _. reads_one j1 (frame ∷ fs) after_item 44 ((others ++ e ∷ []) ++ rest) (at (frame ∷ fs) before_name) (comma_member j1 (ms ++ (name, t) ∷ []) fs) ∙ ap (λ (l : List ℕ). reads (suc j1) (at (frame ∷ fs) before_name) l) (append_assoc others (e ∷ []) rest))
+    (meets_before (others ++ e ∷ []) (λ rest _. tt) (member_goes name t g i j1 ms fs m first 44 comma ready h.2 refl)))
+    (meets_from (λ rest _. refl) (λ rest _. ap (λ l. reads j (at (in_object l ∷ fs) after_item) (e ∷ rest)) (append_assoc ms ((name, t) ∷ []) ((other, u) ∷ entries_of us)))
+    (members_go other u us gs.0 gs.1 (ms ++ (name, t) ∷ []) (suc j1) j fs before_name others e d (name_ready (frame ∷ fs)) h.3 (omega arith))))
   where
     regroup : (rest : List ℕ) → inner ++ e ∷ rest ≡ h.0 ++ 44 ∷ ((h.1 ++ e ∷ []) ++ rest)
     regroup rest = rw h.4 (simp append_assoc)
@@ -342,7 +349,7 @@ part_goes i j fs word h place =
     let more = part_head h.2 h.4 in
     let number = number_goes i (i + length digits) fs n.negative n.digits n.is_int refl in
     stops (NotWhole i) tt (λ p. p)
-      (λ rest r. ap (λ (l : List ℕ). begins i fs (l ++ rest)) (h.5 ∙ ap (λ (l : List ℕ). l ++ h.2) n.parts) ∙ ap (λ (l : List ℕ). begins i fs l) (append_assoc digits h.2 rest ∙ ap (λ (l : List ℕ). digits ++ (l ++ rest)) more.parts) ∙ number.has_part more.first (more.others ++ rest) more.begins_one)
+    (λ rest r. ap (λ (l : List ℕ). begins i fs (l ++ rest)) (h.5 ∙ ap (λ (l : List ℕ). l ++ h.2) n.parts) ∙ ap (λ (l : List ℕ). begins i fs l) (append_assoc digits h.2 rest ∙ ap (λ (l : List ℕ). digits ++ (l ++ rest)) more.parts) ∙ number.has_part more.first (more.others ++ rest) more.begins_one)
 
 -- texts
 begin_quote : (i : ℕ) (fs : List Frame) → begin i fs 34 ≡ Ok (at fs (in_text Role.Value [] (Character Boundary)))
@@ -353,7 +360,7 @@ text_goes : (t : List ℕ) → Goes (text t)
 text_goes t i j fs word h place =
     let total : length word ≡ suc (length (h.inner ++ 34 ∷ [])) = ap length h.parts in
     goes (λ rest r. ap (λ (l : List ℕ). begins i fs (l ++ rest)) h.parts ∙ begins_at i fs 34 ((h.inner ++ 34 ∷ []) ++ rest) _ (begin_quote i fs)
-      ∙ string_reads t word h i (suc i + length h.inner) fs Role.Value rest refl ∙ reads_at _ j (complete fs (text t)) rest (omega (arith, length-append h.inner (34 ∷ []))))
+    ∙ string_reads t word h i (suc i + length h.inner) fs Role.Value rest refl ∙ reads_at _ j (complete fs (text t)) rest (omega (arith, length-append h.inner (34 ∷ []))))
 
 -- lists
 pub begin_list : (i : ℕ) (fs : List Frame) → begin i fs 91 ≡ cond (nat_lt (length fs) 64) (Ok (at (in_list [] ∷ fs) before_first)) (Err (TooDeep i))
@@ -373,9 +380,9 @@ list_inside none gs i j fs inner h place =
     goes (λ rest _. past_blanks (in_list [] ∷ fs) before_first inner (93 ∷ rest) i (i + length inner) (first_passes _) h refl ∙ reads_one (i + length inner) (in_list [] ∷ fs) before_first 93 rest (complete fs (list none)) (first_bracket _ fs) ∙ reads_at _ j _ rest (omega arith))
 list_inside (item t us) gs i j fs inner h place =
     meets_from (λ rest _. refl)
-      (λ rest _. reads_one (i + length inner) (in_list ([] ++ list_of (item t us)) ∷ fs) after_item 93 rest (complete fs (list (trees (list_of (item t us))))) (bracket_item _ (list_of (item t us)) fs)
-        ∙ ap (λ k. reads (suc (i + length inner)) (complete fs (list k)) rest) (trees-list_of (item t us)) ∙ reads_at _ j _ rest (omega arith))
-      (items_go t us gs.0 gs.1 [] i (i + length inner) fs before_first inner 93 bracket (first_ready (in_list [] ∷ fs)) h refl)
+    (λ rest _. reads_one (i + length inner) (in_list ([] ++ list_of (item t us)) ∷ fs) after_item 93 rest (complete fs (list (trees (list_of (item t us))))) (bracket_item _ (list_of (item t us)) fs)
+    ∙ ap (λ k. reads (suc (i + length inner)) (complete fs (list k)) rest) (trees-list_of (item t us)) ∙ reads_at _ j _ rest (omega arith))
+    (items_go t us gs.0 gs.1 [] i (i + length inner) fs before_first inner 93 bracket (first_ready (in_list [] ∷ fs)) h refl)
 
 object_inside : (ms : Members) → MembersGo ms → (i j : ℕ) (fs : List Frame) (inner : List ℕ) → AreMembers ms inner → j ≡ i + suc (length inner)
     → Meets (MembersFit (room_in (in_object [] ∷ fs)) ms) Any (λ rest. reads i (at (in_object [] ∷ fs) before_first_name) (inner ++ 125 ∷ rest)) (λ rest. reads j (complete fs (members ms)) rest)
@@ -383,10 +390,10 @@ object_inside no_member gs i j fs inner h place =
     goes (λ rest _. past_blanks (in_object [] ∷ fs) before_first_name inner (125 ∷ rest) i (i + length inner) (first_name_passes _) h refl ∙ reads_one (i + length inner) (in_object [] ∷ fs) before_first_name 125 rest (complete fs (members no_member)) (first_brace _ fs) ∙ reads_at _ j _ rest (omega arith))
 object_inside (member name t us) gs i j fs inner h place =
     meets_under (λ p. (new_to_none (member name t us), p))
-      (meets_from (λ rest _. refl)
-        (λ rest _. reads_one (i + length inner) (in_object ([] ++ entries_of (member name t us)) ∷ fs) after_item 125 rest (complete fs (members (entries (entries_of (member name t us))))) (brace_member _ (entries_of (member name t us)) fs)
-          ∙ ap (λ k. reads (suc (i + length inner)) (complete fs (members k)) rest) (entries-entries_of (member name t us)) ∙ reads_at _ j _ rest (omega arith))
-        (members_go name t us gs.0 gs.1 [] i (i + length inner) fs before_first_name inner 125 brace (first_name_ready (in_object [] ∷ fs)) h refl))
+    (meets_from (λ rest _. refl)
+    (λ rest _. reads_one (i + length inner) (in_object ([] ++ entries_of (member name t us)) ∷ fs) after_item 125 rest (complete fs (members (entries (entries_of (member name t us))))) (brace_member _ (entries_of (member name t us)) fs)
+    ∙ ap (λ k. reads (suc (i + length inner)) (complete fs (members k)) rest) (entries-entries_of (member name t us)) ∙ reads_at _ j _ rest (omega arith))
+    (members_go name t us gs.0 gs.1 [] i (i + length inner) fs before_first_name inner 125 brace (first_name_ready (in_object [] ∷ fs)) h refl))
 
 list_goes : (ts : Trees) → AllGo ts → Goes (list ts)
 list_goes ts gs i j fs word h place =
@@ -396,13 +403,13 @@ list_goes ts gs i j fs word h place =
       | inl open_still ↦ (let below : length fs < 64 = ltb-true (length fs) 64 open_still in
           meets_under (λ p. subst (λ r. AllFit r ts) (less_room (in_list []) fs) p.1)
           (meets_from
-            (λ rest _. ap (λ (l : List ℕ). begins i fs (l ++ rest)) h.2 ∙ begins_at i fs 91 ((inner ++ 93 ∷ []) ++ rest) (at (in_list [] ∷ fs) before_first) (begin_list i fs ∙ cond-true (nat_lt (length fs) 64) _ _ open_still)
-              ∙ ap (λ (l : List ℕ). reads (suc i) (at (in_list [] ∷ fs) before_first) l) (append_assoc inner (93 ∷ []) rest))
-            (λ rest _. refl)
-            (meets_weaken (list_inside ts gs (suc i) j fs inner h.1 (omega (arith, length-append inner (93 ∷ [])))))))
+          (λ rest _. ap (λ (l : List ℕ). begins i fs (l ++ rest)) h.2 ∙ begins_at i fs 91 ((inner ++ 93 ∷ []) ++ rest) (at (in_list [] ∷ fs) before_first) (begin_list i fs ∙ cond-true (nat_lt (length fs) 64) _ _ open_still)
+          ∙ ap (λ (l : List ℕ). reads (suc i) (at (in_list [] ∷ fs) before_first) l) (append_assoc inner (93 ∷ []) rest))
+          (λ rest _. refl)
+          (meets_weaken (list_inside ts gs (suc i) j fs inner h.1 (omega (arith, length-append inner (93 ∷ [])))))))
       | inr full ↦ (let above : 64 ≤ length fs = ltb-false (length fs) 64 full in
           stops (TooDeep i) tt (λ p. let some : 0 < 64 - length fs = p.0 in omega arith)
-            (λ rest _. ap (λ (l : List ℕ). begins i fs (l ++ rest)) h.2 ∙ ap (λ r. and_then r (λ next. reads (suc i) next ((inner ++ 93 ∷ []) ++ rest))) (begin_list i fs ∙ cond-false (nat_lt (length fs) 64) _ _ full)))
+          (λ rest _. ap (λ (l : List ℕ). begins i fs (l ++ rest)) h.2 ∙ ap (λ r. and_then r (λ next. reads (suc i) next ((inner ++ 93 ∷ []) ++ rest))) (begin_list i fs ∙ cond-false (nat_lt (length fs) 64) _ _ full)))
     ]
 
 object_goes : (ms : Members) → MembersGo ms → Goes (members ms)
@@ -413,13 +420,13 @@ object_goes ms gs i j fs word h place =
       | inl open_still ↦ (let below : length fs < 64 = ltb-true (length fs) 64 open_still in
           meets_under (λ p. subst (λ r. MembersFit r ms) (less_room (in_object []) fs) p.1)
           (meets_from
-            (λ rest _. ap (λ (l : List ℕ). begins i fs (l ++ rest)) h.2 ∙ begins_at i fs 123 ((inner ++ 125 ∷ []) ++ rest) (at (in_object [] ∷ fs) before_first_name) (begin_object i fs ∙ cond-true (nat_lt (length fs) 64) _ _ open_still)
-              ∙ ap (λ (l : List ℕ). reads (suc i) (at (in_object [] ∷ fs) before_first_name) l) (append_assoc inner (125 ∷ []) rest))
-            (λ rest _. refl)
-            (meets_weaken (object_inside ms gs (suc i) j fs inner h.1 (omega (arith, length-append inner (125 ∷ [])))))))
+          (λ rest _. ap (λ (l : List ℕ). begins i fs (l ++ rest)) h.2 ∙ begins_at i fs 123 ((inner ++ 125 ∷ []) ++ rest) (at (in_object [] ∷ fs) before_first_name) (begin_object i fs ∙ cond-true (nat_lt (length fs) 64) _ _ open_still)
+          ∙ ap (λ (l : List ℕ). reads (suc i) (at (in_object [] ∷ fs) before_first_name) l) (append_assoc inner (125 ∷ []) rest))
+          (λ rest _. refl)
+          (meets_weaken (object_inside ms gs (suc i) j fs inner h.1 (omega (arith, length-append inner (125 ∷ [])))))))
       | inr full ↦ (let above : 64 ≤ length fs = ltb-false (length fs) 64 full in
           stops (TooDeep i) tt (λ p. let some : 0 < 64 - length fs = p.0 in omega arith)
-            (λ rest _. ap (λ (l : List ℕ). begins i fs (l ++ rest)) h.2 ∙ ap (λ r. and_then r (λ next. reads (suc i) next ((inner ++ 125 ∷ []) ++ rest))) (begin_object i fs ∙ cond-false (nat_lt (length fs) 64) _ _ full)))
+          (λ rest _. ap (λ (l : List ℕ). begins i fs (l ++ rest)) h.2 ∙ ap (λ r. and_then r (λ next. reads (suc i) next ((inner ++ 125 ∷ []) ++ rest))) (begin_object i fs ∙ cond-false (nat_lt (length fs) 64) _ _ full)))
     ]
 
 truth_goes : (b : Bool) → Goes (truth b)

@@ -112,14 +112,14 @@ unfolding reads step finish end_number
 number_ends [] i fs negative n p h ok = cond-true (fits negative n) _ _ ok ∙ sym (finish_complete i fs (whole (signed negative n)))
 number_ends (b ∷ bs) i fs negative n p h ok =
     ap (λ r. and_then r (λ next. reads (suc i) next bs))
-      (cond-false (is_digit b) _ _ h.0 ∙ cond-false (begins_part b) _ _ h.1 ∙ cond-true (fits negative n) _ _ ok ∙ sym (after_complete i fs (whole (signed negative n)) b))
+    (cond-false (is_digit b) _ _ h.0 ∙ cond-false (begins_part b) _ _ h.1 ∙ cond-true (fits negative n) _ _ ok ∙ sym (after_complete i fs (whole (signed negative n)) b))
 
 pub number_wide : (rest : List ℕ) (i : ℕ) (fs : List Frame) (negative : Bool) (n p : ℕ) → EndsNumber rest → fits negative n ≡ false → reads i (at fs (in_digits negative n p)) rest ≡ Err (TooWide p)
 unfolding reads step finish end_number
 number_wide [] i fs negative n p h wide = cond-false (fits negative n) _ _ wide
 number_wide (b ∷ bs) i fs negative n p h wide =
     ap (λ r. and_then r (λ next. reads (suc i) next bs))
-      (cond-false (is_digit b) _ _ h.0 ∙ cond-false (begins_part b) _ _ h.1 ∙ cond-false (fits negative n) _ _ wide)
+    (cond-false (is_digit b) _ _ h.0 ∙ cond-false (begins_part b) _ _ h.1 ∙ cond-false (fits negative n) _ _ wide)
 
 not_digit_of_part : (b : ℕ) → begins_part b ≡ true → is_digit b ≡ false
 not_digit_of_part b e = elim (or_cases _ (b == 69) e) [
@@ -141,7 +141,7 @@ unfolding reads step finish end_number
 zero_ends [] i fs negative p h = sym (finish_complete i fs (whole (signed negative 0)))
 zero_ends (b ∷ bs) i fs negative p h =
     ap (λ r. and_then r (λ next. reads (suc i) next bs))
-      (cond-false (begins_part b) _ _ h.1 ∙ cond-true (fits negative 0) _ _ (zero_fits negative) ∙ sym (after_complete i fs (whole (signed negative 0)) b))
+    (cond-false (begins_part b) _ _ h.1 ∙ cond-true (fits negative 0) _ _ (zero_fits negative) ∙ sym (after_complete i fs (whole (signed negative 0)) b))
   where
     zero_fits : (negative : Bool) → fits negative 0 ≡ true
     zero_fits true = refl

@@ -76,7 +76,7 @@ part_runs (b ∷ bs) t (Inside low high left) h = go (utf8_step (Inside low high
     go None e q ih = absurd q
     go (Some next) e q ih =
         runs_one t (Character (Inside low high left)) b bs (t ++ b ∷ bs) (Character Boundary) (t ++ b ∷ [], Character next) refl (inside_step t b low high left next e)
-          (subst (λ (l : List ℕ). TextRuns (t ++ b ∷ []) (Character next) bs l (Character Boundary)) (append_assoc t (b ∷ []) bs) (ih next q))
+        (subst (λ (l : List ℕ). TextRuns (t ++ b ∷ []) (Character next) bs l (Character Boundary)) (append_assoc t (b ∷ []) bs) (ih next q))
 
 pub ne_test : (b k : ℕ) → (b ≡ k → ⊥) → (b == k) ≡ false
 ne_test b k h = ne_eqb b k h
@@ -88,10 +88,10 @@ plain_runs t c ok low ne_quote ne_backslash = elim (cases_lt c 128) [
   | inr large ↦
       let l = lead_of c ok large in
       subst (λ (k : List ℕ). TextRuns t (Character Boundary) k (t ++ k) (Character Boundary)) (sym l.bytes)
-        (runs_one t (Character Boundary) l.first l.others (t ++ l.first ∷ l.others) (Character Boundary) (t ++ l.first ∷ [], Character (Inside l.low l.high l.left))
-          (let above : 128 ≤ l.first = l.above in ne_test l.first 34 (λ e. omega arith)) (lead_step t l.first l.low l.high l.left l.above l.state)
-          (subst (λ (k : List ℕ). TextRuns (t ++ l.first ∷ []) (Character (Inside l.low l.high l.left)) l.others k (Character Boundary)) (append_assoc t (l.first ∷ []) l.others)
-            (part_runs l.others (t ++ l.first ∷ []) (Inside l.low l.high l.left) l.finishes)))
+      (runs_one t (Character Boundary) l.first l.others (t ++ l.first ∷ l.others) (Character Boundary) (t ++ l.first ∷ [], Character (Inside l.low l.high l.left))
+      (let above : 128 ≤ l.first = l.above in ne_test l.first 34 (λ e. omega arith)) (lead_step t l.first l.low l.high l.left l.above l.state)
+      (subst (λ (k : List ℕ). TextRuns (t ++ l.first ∷ []) (Character (Inside l.low l.high l.left)) l.others k (Character Boundary)) (append_assoc t (l.first ∷ []) l.others)
+      (part_runs l.others (t ++ l.first ∷ []) (Inside l.low l.high l.left) l.finishes)))
 ]
 
 -- an escape by one letter
@@ -169,8 +169,8 @@ high_test u h = elim (cases_Bool (is_high u)) [
 unit_runs : (t : List ℕ) (u a b c d : ℕ) → digit_value a < 16 → digit_value b < 16 → digit_value c < 16 → digit_value d < 16 → u ≡ hex_number a b c d → (IsHigh u → ⊥) → (IsLow u → ⊥) → TextRuns t (Character Boundary) (92 ∷ 117 ∷ a ∷ b ∷ c ∷ d ∷ []) (t ++ encode_utf8 u) (Character Boundary)
 unit_runs t u a b c d ha hb hc hd e high low =
     unit_starts t [] (t ++ encode_utf8 u) (Character Boundary) a b c d ha hb hc hd (no_low a b c d u ha hb hc hd e low)
-      (t ++ encode_utf8 (hex_number a b c d), Character Boundary) (cond-false (is_high (hex_number a b c d)) _ _ (subst (λ k. is_high k ≡ false) e (high_test u high)))
-      (ap (λ k. t ++ encode_utf8 k) (sym e), refl)
+    (t ++ encode_utf8 (hex_number a b c d), Character Boundary) (cond-false (is_high (hex_number a b c d)) _ _ (subst (λ k. is_high k ≡ false) e (high_test u high)))
+    (ap (λ k. t ++ encode_utf8 k) (sym e), refl)
 
 -- the escape of a low surrogate, after that of a high one
 after_high_step : (t : List ℕ) (h : ℕ) → text_step t (AfterHigh h) 92 ≡ Some (t, AfterHighEscape h)
@@ -211,7 +211,7 @@ high_runs t h a b c d ha hb hc hd e high =
     let h1 : h ≤ 56319 = high.1 in
     let test : is_high (hex_number a b c d) ≡ true = subst (λ k. is_high k ≡ true) e (and_from (nat_le 55296 h) (nat_le h 56319) (le-leb 55296 h h0) (le-leb h 56319 h1)) in
     unit_starts t [] t (AfterHigh h) a b c d ha hb hc hd (no_low a b c d h ha hb hc hd e (λ l. let l0 = l.0 in omega arith))
-      (t, AfterHigh (hex_number a b c d)) (cond-true (is_high (hex_number a b c d)) _ _ test) (refl, ap AfterHigh (sym e))
+    (t, AfterHigh (hex_number a b c d)) (cond-true (is_high (hex_number a b c d)) _ _ test) (refl, ap AfterHigh (sym e))
 
 pub char_runs : (t : List ℕ) (c : ℕ) (bytes : List ℕ) → IsChar c bytes → TextRuns t (Character Boundary) bytes (t ++ encode_utf8 c) (Character Boundary)
 char_runs t c bytes (unescaped _ _ ok low ne_quote ne_backslash e) = subst (λ (l : List ℕ). TextRuns t (Character Boundary) l (t ++ encode_utf8 c) (Character Boundary)) (sym e) (plain_runs t c ok low ne_quote ne_backslash)
@@ -220,16 +220,16 @@ char_runs t c bytes (unit _ _ u high low) =
     subst (λ (l : List ℕ). TextRuns t (Character Boundary) l (t ++ encode_utf8 c) (Character Boundary)) (sym u.parts) (unit_runs t c u.a u.b u.c u.d u.a_is_digit u.b_is_digit u.c_is_digit u.d_is_digit u.value high low)
 char_runs t c bytes (surrogates _ h l front back _ high low uh ul e f) =
     subst (λ (k : List ℕ). TextRuns t (Character Boundary) k (t ++ encode_utf8 c) (Character Boundary)) (sym f)
-      (runs_then front back t t (t ++ encode_utf8 c) (Character Boundary) (AfterHigh h) (Character Boundary)
-        (subst (λ (k : List ℕ). TextRuns t (Character Boundary) k t (AfterHigh h)) (sym uh.parts) (high_runs t h uh.a uh.b uh.c uh.d uh.a_is_digit uh.b_is_digit uh.c_is_digit uh.d_is_digit uh.value high))
-        (subst (λ (k : List ℕ). TextRuns t (AfterHigh h) k (t ++ encode_utf8 c) (Character Boundary)) (sym ul.parts)
-          (subst (λ k. TextRuns t (AfterHigh h) (92 ∷ 117 ∷ ul.a ∷ ul.b ∷ ul.c ∷ ul.d ∷ []) (t ++ encode_utf8 k) (Character Boundary)) (joined_is h l high low ∙ sym e)
-            (low_runs t h l ul.a ul.b ul.c ul.d ul.a_is_digit ul.b_is_digit ul.c_is_digit ul.d_is_digit ul.value low))))
+    (runs_then front back t t (t ++ encode_utf8 c) (Character Boundary) (AfterHigh h) (Character Boundary)
+    (subst (λ (k : List ℕ). TextRuns t (Character Boundary) k t (AfterHigh h)) (sym uh.parts) (high_runs t h uh.a uh.b uh.c uh.d uh.a_is_digit uh.b_is_digit uh.c_is_digit uh.d_is_digit uh.value high))
+    (subst (λ (k : List ℕ). TextRuns t (AfterHigh h) k (t ++ encode_utf8 c) (Character Boundary)) (sym ul.parts)
+    (subst (λ k. TextRuns t (AfterHigh h) (92 ∷ 117 ∷ ul.a ∷ ul.b ∷ ul.c ∷ ul.d ∷ []) (t ++ encode_utf8 k) (Character Boundary)) (joined_is h l high low ∙ sym e)
+    (low_runs t h l ul.a ul.b ul.c ul.d ul.a_is_digit ul.b_is_digit ul.c_is_digit ul.d_is_digit ul.value low))))
 
 pub chars_run : (cs : List ℕ) (t inner : List ℕ) → AreChars cs inner → TextRuns t (Character Boundary) inner (t ++ encodes cs) (Character Boundary)
 chars_run [] t inner h = subst (λ (l : List ℕ). TextRuns t (Character Boundary) l (t ++ []) (Character Boundary)) (sym h) (sym (append-nil t), refl)
 chars_run (c ∷ cs) t inner h =
     subst (λ (l : List ℕ). TextRuns t (Character Boundary) l (t ++ (encode_utf8 c ++ encodes cs)) (Character Boundary)) (sym h.4)
-      (runs_then h.0 h.1 t (t ++ encode_utf8 c) (t ++ (encode_utf8 c ++ encodes cs)) (Character Boundary) (Character Boundary) (Character Boundary)
-        (char_runs t c h.0 h.2)
-        (subst (λ (l : List ℕ). TextRuns (t ++ encode_utf8 c) (Character Boundary) h.1 l (Character Boundary)) (append_assoc t (encode_utf8 c) (encodes cs)) (chars_run cs (t ++ encode_utf8 c) h.1 h.3)))
+    (runs_then h.0 h.1 t (t ++ encode_utf8 c) (t ++ (encode_utf8 c ++ encodes cs)) (Character Boundary) (Character Boundary) (Character Boundary)
+    (char_runs t c h.0 h.2)
+    (subst (λ (l : List ℕ). TextRuns (t ++ encode_utf8 c) (Character Boundary) h.1 l (Character Boundary)) (append_assoc t (encode_utf8 c) (encodes cs)) (chars_run cs (t ++ encode_utf8 c) h.1 h.3)))

@@ -48,7 +48,6 @@ skips_one bytes place next s h e = record {
   same = λ fs m p. s.same fs m p ∙ one_byte bytes next fs m (at fs m) h (p.over next (get_or bytes next 0) e);
 }
 
-
 -- a run of plain bytes, as far as a place
 pub record Plain (bytes : List ℕ) (place next : ℕ) : Type 0 where
   pub above : place ≤ next
@@ -77,7 +76,7 @@ plain_runs [] t h = (sym (append-nil t), refl)
 plain_runs (x ∷ xs) t h =
     let p = h.0 in
     runs_one t (Character Boundary) x xs (t ++ x ∷ xs) (Character Boundary) (t ++ x ∷ [], Character Boundary) (ne_test x 34 p.2) (ascii_step t x p.0 p.1 p.3)
-      (subst (λ (l : List ℕ). TextRuns (t ++ x ∷ []) (Character Boundary) xs l (Character Boundary)) (append_assoc t (x ∷ []) xs) (plain_runs xs (t ++ x ∷ []) h.1))
+    (subst (λ (l : List ℕ). TextRuns (t ++ x ∷ []) (Character Boundary) xs l (Character Boundary)) (append_assoc t (x ∷ []) xs) (plain_runs xs (t ++ x ∷ []) h.1))
 
 plain_spelled : (xs t inner : List ℕ) → AllByRecursion IsPlain xs → Spelled t inner → Spelled (t ++ xs) (inner ++ xs)
 plain_spelled [] t inner h s = subst (λ (l : List ℕ). Spelled l (inner ++ [])) (sym (append-nil t)) (subst (Spelled t) (sym (append-nil inner)) s)
@@ -88,8 +87,8 @@ plain_spelled (x ∷ xs) t inner h s =
     let e = encode_ascii x high in
     let q = spelled_push t inner (x ∷ []) x s (unescaped x (x ∷ []) (low_scalar x (omega arith)) low p.2 p.3 (sym e)) in
     subst (λ (l : List ℕ). Spelled l (inner ++ x ∷ xs)) (append_assoc t (x ∷ []) xs)
-      (subst (λ (l : List ℕ). Spelled ((t ++ x ∷ []) ++ xs) l) (append_assoc inner (x ∷ []) xs)
-        (plain_spelled xs (t ++ x ∷ []) (inner ++ x ∷ []) h.1 (subst (λ (l : List ℕ). Spelled (t ++ l) (inner ++ x ∷ [])) e q)))
+    (subst (λ (l : List ℕ). Spelled ((t ++ x ∷ []) ++ xs) l) (append_assoc inner (x ∷ []) xs)
+    (plain_spelled xs (t ++ x ∷ []) (inner ++ x ∷ []) h.1 (subst (λ (l : List ℕ). Spelled (t ++ l) (inner ++ x ∷ [])) e q)))
 
 pub plain_stands : (t xs : List ℕ) → AllByRecursion IsPlain xs → StandsSome t (Character Boundary) → StandsSome (t ++ xs) (Character Boundary)
 plain_stands t xs h s = (s.0 ++ xs, plain_spelled xs t s.0 h s.1)
@@ -167,8 +166,8 @@ text_open bytes place next t m fs role s h =
 pub run_moved : (bytes : List ℕ) (place next : ℕ) (t u : List ℕ) (m : TextMode) → Plain bytes place next → place < next → m ≡ Character Boundary → u ≡ t ++ slice_range bytes place next → StandsSome t m → TextMoves bytes place t m u (Some (m, next))
 run_moved bytes place next t u m p above e f s =
     subst (λ k. TextMoves bytes place t k u (Some (k, next))) (sym e)
-      (subst (λ (l : List ℕ). TextMoves bytes place t (Character Boundary) l (Some (Character Boundary, next))) (sym f)
-        (above, p.within, plain_stands t (slice_range bytes place next) p.plain (subst (StandsSome t) e s), λ fs role. plain_moves bytes place next t fs role p))
+    (subst (λ (l : List ℕ). TextMoves bytes place t (Character Boundary) l (Some (Character Boundary, next))) (sym f)
+    (above, p.within, plain_stands t (slice_range bytes place next) p.plain (subst (StandsSome t) e s), λ fs role. plain_moves bytes place next t fs role p))
 
 pub step_moved : (bytes : List ℕ) (place : ℕ) (t u : List ℕ) (m k : TextMode) → place < length bytes → closes m (get_or bytes place 0) ≡ false → Some (u, k) ≡ text_step t m (get_or bytes place 0) → StandsSome t m → TextMoves bytes place t m u (Some (k, place + 1))
 step_moved bytes place t u m k h more e s = (omega arith, omega arith, step_stands t u m k (get_or bytes place 0) s more (sym e), λ fs role. step_moves bytes place t u m k fs role h more (sym e))
@@ -312,7 +311,7 @@ word_one bytes place rest n end s k more e =
       above = omega arith;
       within = omega arith;
       same = λ fs t. s.same fs t ∙ ap (λ (l : List ℕ). reads end (word_state fs l t) (drop end bytes)) (drop_more rest n 0 k)
-        ∙ one_byte bytes end fs (in_word (get_or rest n 0 ∷ drop (n + 1) rest) t) _ h (word_byte end fs (get_or rest n 0) (drop (n + 1) rest) t (get_or bytes end 0) e);
+          ∙ one_byte bytes end fs (in_word (get_or rest n 0 ∷ drop (n + 1) rest) t) _ h (word_byte end fs (get_or rest n 0) (drop (n + 1) rest) t (get_or bytes end 0) e);
     }
 
 -- a word that goes on otherwise, or not at all

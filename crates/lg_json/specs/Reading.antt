@@ -63,7 +63,6 @@ abbrev pub complete : List Frame → Tree → State
 complete [] t = at [] (ended t)
 complete (f ∷ fs) t = at (with_value f t ∷ fs) after_item
 
-
 -- a list or an object that begins
 abbrev pub open_frame : ℕ → List Frame → Frame → Mode → Result State JsonFault
 open_frame i fs f m = if nat_lt (length fs) 64 then Ok (at (f ∷ fs) m) else Err (TooDeep i)

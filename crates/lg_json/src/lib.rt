@@ -3,6 +3,7 @@
 #![tactic(auto)]
 
 mod blanks;
+mod copy;
 mod json;
 mod number;
 mod open;
@@ -17,3 +18,6 @@ mod word;
 pub use json::{Json, JsonFault, JsonList, Member, MemberList};
 pub use reader::read;
 pub use std::alloc::AllocError as NoMemory;
+
+#[cfg(test)]
+mod tests;

@@ -81,12 +81,7 @@ pub fn close_empty(
 }
 
 /// The state after `]` or `}` at `place`, the end of a list or of an object.
-fn close(
-    alloc: Global,
-    place: usize,
-    frames: Stack<Frame>,
-    byte: u8,
-) -> Result<State, JsonFault>
+fn close(alloc: Global, place: usize, frames: Stack<Frame>, byte: u8) -> Result<State, JsonFault>
     requires { (byte ≡ 93) ⊎ (byte ≡ 125) }
     ensures { Gives view result (machine.follow_on place (frames_view frames) byte) }
 {

@@ -221,11 +221,7 @@ fn step_name(
 }
 
 /// The colon after a name.
-fn step_colon(
-    bytes: &[u8],
-    place: usize,
-    frames: Stack<Frame>,
-) -> Result<(State, usize), JsonFault>
+fn step_colon(bytes: &[u8], place: usize, frames: Stack<Frame>) -> Result<(State, usize), JsonFault>
     requires within { place < length bytes.now }
     requires no_blank { machine.is_blank (slice_index bytes.now place) ≡ false }
     ensures { Moves bytes.now place (machine.reads place (machine.at (frames_view frames) machine.Mode.before_colon) (drop place bytes.now)) result }

@@ -94,10 +94,7 @@ fn push_plain(
     }
 }
 
-fn push_escaped(
-    text: &mut Vec<u8>,
-    escaped: Option<u8>,
-) -> Result<Option<TextMode>, AllocError>
+fn push_escaped(text: &mut Vec<u8>, escaped: Option<u8>) -> Result<Option<TextMode>, AllocError>
     ensures { IfOk result (λ m. with_text text.new.items m ≡ machine.escape_step text.old.items escaped) }
 {
     match escaped {

@@ -17,6 +17,6 @@ pub returns : goal.returns
 returns c =
     let fs = frames_view c.args.frames in
     rw c.at_place.ensures
-      (moves_placed c.args.bytes.now c.args.place (c.in_ok-text.quote + 1) _ (Ok (complete fs (text c.in_ok-text.text))) c.complete.result
-        (omega (arith, c.in_ok-text.ensures.above)) (omega (arith, c.in_ok-text.ensures.within))
-        (text_value c.args.bytes.now c.args.place c.in_ok-text.quote c.in_ok-text.text fs c.requires.within c.requires.quote c.in_ok-text.ensures) (rw tree-text at c.complete.ensures))
+    (moves_placed c.args.bytes.now c.args.place (c.in_ok-text.quote + 1) _ (Ok (complete fs (text c.in_ok-text.text))) c.complete.result
+    (omega (arith, c.in_ok-text.ensures.above)) (omega (arith, c.in_ok-text.ensures.within))
+    (text_value c.args.bytes.now c.args.place c.in_ok-text.quote c.in_ok-text.text fs c.requires.within c.requires.quote c.in_ok-text.ensures) (rw tree-text at c.complete.ensures))

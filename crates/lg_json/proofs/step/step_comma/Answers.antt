@@ -8,5 +8,5 @@ pub returns : goal.returns
 returns c =
     let fs = frames_view c.args.frames in
     rw c.at_place.ensures
-      (moves_placed c.args.bytes.now c.args.place (c.args.place + 1) _ _ c.follow_on.result (omega arith) (omega arith)
-        (byte_then c.args.bytes.now c.args.place fs after_item _ c.requires.within (item_byte c.args.place fs _ c.requires.no_blank)) c.follow_on.ensures)
+    (moves_placed c.args.bytes.now c.args.place (c.args.place + 1) _ _ c.follow_on.result (omega arith) (omega arith)
+    (byte_then c.args.bytes.now c.args.place fs after_item _ c.requires.within (item_byte c.args.place fs _ c.requires.no_blank)) c.follow_on.ensures)

@@ -18,8 +18,8 @@ pub returns-then-bytes-place-eq125 : goal.returns-then-bytes-place-eq125
 returns-then-bytes-place-eq125 c =
     let fs = frames_view c.args.frames in
     rw c.at_place.ensures
-      (moves_placed c.args.bytes.now c.args.place (c.args.place + 1) _ (close_empty c.args.place fs (members (entries []))) c.close_empty.result (omega arith) (omega arith)
-        (byte_then c.args.bytes.now c.args.place fs before_first_name _ c.requires.within (first_name_ends c.args.place fs _ c.if-bytes-place-eq125.true)) (rw (c.new.ensures, tree-members) at c.close_empty.ensures))
+    (moves_placed c.args.bytes.now c.args.place (c.args.place + 1) _ (close_empty c.args.place fs (members (entries []))) c.close_empty.result (omega arith) (omega arith)
+    (byte_then c.args.bytes.now c.args.place fs before_first_name _ c.requires.within (first_name_ends c.args.place fs _ c.if-bytes-place-eq125.true)) (rw (c.new.ensures, tree-members) at c.close_empty.ensures))
 
 pub returns : goal.returns
 returns c =

@@ -9,4 +9,4 @@ from_vec-requires c =
 pub returns-then-bytes-end-eq34 : goal.returns-then-bytes-end-eq34
 returns-then-bytes-end-eq34 c =
     rw (c.from_vec.ensures, c.in_ok-text.ensures.items)
-      (text_ends c.args.bytes.now c.args.place c.run_end-end.result _ _ (text_plain c.args.bytes.now c.args.place c.run_end-end.result (record { above = c.run_end-end.ensures.above; within = c.run_end-end.ensures.within; plain = c.run_end-end.ensures.plain })) c.if-end-bytes.true (eq-eqb _ 34 c.if-bytes-end-eq34.true))
+    (text_ends c.args.bytes.now c.args.place c.run_end-end.result _ _ (text_plain c.args.bytes.now c.args.place c.run_end-end.result (record { above = c.run_end-end.ensures.above; within = c.run_end-end.ensures.within; plain = c.run_end-end.ensures.plain })) c.if-end-bytes.true (eq-eqb _ 34 c.if-bytes-end-eq34.true))
