@@ -1,16 +1,13 @@
 -- How what stands after some bytes is completed to a JSON text.
-use Rattle.std.proofs.Common.{◌≡◌, ℕ, suc, ◌+◌, ◌-◌, ◌*◌, ◌<◌, ◌≤◌, ◌⊎◌, Bool, true, false, List, [], ◌∷◌, ◌++◌, length, replicate, refl, sym, ap, ◌∙◌, subst, inl, inr, arith, append_assoc, append-nil}
+use Rattle.std.proofs.Common.{◌≡◌, ℕ, suc, ◌+◌, ◌-◌, ◌*◌, ◌<◌, ◌≤◌, List, [], ◌∷◌, ◌++◌, length, refl, sym, ap, ◌∙◌, subst, inl, inr, arith, append_assoc, append-nil}
 use Rattle.std.proofs.lemmas.Bool.{cases_lt}
-use Rattle.std.proofs.lemmas.List.{length-append}
-use Rattle.std.proofs.lemmas.Str.{encode_ascii}
 use Rattle.std.specs.Char.{encode_utf8, digit_value}
-use lib.Utf8.{scalar, encodes, low_scalar}
 use Rattle.lg_json.specs.Tree.{Tree, Entry, trees, entries}
-use Rattle.lg_json.specs.Tree.Tree.{null, list, members}
-use Rattle.lg_json.specs.Grammar.{IsBlank, IsValue, IsJson, IsHexDigit, hex_number, IsUnit, IsHigh, IsLow, pair, IsChar, Fits, AllFit, MembersFit}
+use Rattle.lg_json.specs.Tree.Tree.{list, members}
+use Rattle.lg_json.specs.Grammar.{IsValue, IsJson, IsHexDigit, hex_number, IsUnit, IsHigh, IsLow, pair, Fits, AllFit, MembersFit}
 use Rattle.lg_json.specs.Grammar.IsChar.{unescaped, short, unit, surrogates}
 use Rattle.lg_json.specs.Grammar.IsShort.{slash}
-use Rattle.lg_json.specs.Reading.{Frame, complete}
+use Rattle.lg_json.specs.Reading.{Frame}
 use Rattle.lg_json.specs.Reading.Frame.{in_list, in_object, named}
 use Rattle.lg_json.specs.Before.{BeforeValue}
 use Rattle.lg_json.specs.Fault.{Begins, BeginsFitting}
@@ -18,7 +15,7 @@ use Rattle.lg_json.specs.declared.state.TextMode.{TextMode}
 use Rattle.lg_json.specs.declared.state.TextMode.TheVariants.{Character, Escape, Unit as UnitMode, AfterHigh, AfterHighEscape, Low}
 use Rattle.lg_containers.specs.declared.utf8.Utf8State.TheVariants.{Boundary, Inside}
 use Rattle.lg_containers.specs.Utf8Laws.{can_finish}
-use Rattle.lg_json.specs.Texts.{Spelled, IsNoLow, UnitDigits, LowDigits, TextStands}
+use Rattle.lg_json.specs.Texts.{Spelled, UnitDigits, LowDigits, TextStands}
 use Rattle.lg_json.proofs.Texts.{spelled_push}
 use Rattle.lg_json.proofs.Lists.{padded}
 use Rattle.lg_json.proofs.Sound.{completes}

@@ -1,17 +1,17 @@
 -- Where the bytes have a first fault, the reading gives it.
-use Rattle.std.proofs.Common.{◌≡◌, ℕ, suc, ◌+◌, ◌-◌, ◌<◌, ◌≤◌, ◌⊎◌, Bool, true, false, cond, nat_lt, ◌==◌, List, [], ◌∷◌, ◌++◌, length, take, Result, Ok, Err, IfOk, IfErr, ℤ, inl, inr, refl, sym, ap, ◌∙◌, subst, arith, append_assoc, append-nil, eqb-true}
-use Rattle.std.proofs.lemmas.Bool.{cond-true, cond-false, cases_Bool, cases_lt, false_from_ne_true, true_from_ne_false, le-ltb, or_cases}
+use Rattle.std.proofs.Common.{◌≡◌, ℕ, suc, ◌+◌, ◌-◌, ◌≤◌, Bool, true, false, nat_lt, ◌==◌, List, [], ◌∷◌, ◌++◌, length, take, Result, Ok, Err, IfOk, IfErr, ℤ, inl, inr, refl, sym, ap, ◌∙◌, subst, arith, append_assoc, eqb-true}
+use Rattle.std.proofs.lemmas.Bool.{cond-true, cond-false, cases_lt, false_from_ne_true, true_from_ne_false, le-ltb, or_cases}
 use Rattle.std.proofs.lemmas.List.{length-append, take_at}
-use Rattle.lg_json.specs.Tree.{Tree, Entry, entries}
-use Rattle.lg_json.specs.Tree.Tree.{null, whole, part, list, members}
+use Rattle.lg_json.specs.Tree.{Tree, Entry}
+use Rattle.lg_json.specs.Tree.Tree.{whole, part, list, members}
 use Rattle.lg_json.specs.Tree.Trees.{none}
 use Rattle.lg_json.specs.Tree.Members.{no_member}
-use Rattle.lg_json.specs.Grammar.{IsWhole, number_from, signed, minus_if, IsFraction, IsExponent, IsFractionAndExponent, IsPart, IsString, IsJson, InRange, IsNew, Fits}
-use Rattle.lg_json.specs.Reading.{Frame, at, capped, fits, begins_part, has_name, with_name, and_then, reads, reading}
-use Rattle.lg_json.specs.Reading.Frame.{in_list, in_object, named}
-use Rattle.lg_json.specs.Reading.Mode.{before_colon, before_first, before_first_name}
+use Rattle.lg_json.specs.Grammar.{IsWhole, number_from, signed, minus_if, IsPart, IsJson, InRange}
+use Rattle.lg_json.specs.Reading.{Frame, at, capped, fits, begins_part, has_name, and_then, reads, reading}
+use Rattle.lg_json.specs.Reading.Frame.{in_object, named}
+use Rattle.lg_json.specs.Reading.Mode.{before_colon}
 use Rattle.lg_json.specs.Before.{BeforeName, BeforeValue}
-use Rattle.lg_json.specs.Fault.{Begins, BeginsFitting, NotJson, IsLongestFront, Before, EndsNumber, IsSyntax, IsNotWhole, IsTooWide, IsTooDeep, IsRepeated, IsFault}
+use Rattle.lg_json.specs.Fault.{Begins, BeginsFitting, IsLongestFront, Before, IsSyntax, IsNotWhole, IsTooWide, IsTooDeep, IsRepeated, IsFault}
 use Rattle.lg_json.specs.declared.json.JsonFault.{JsonFault}
 use Rattle.lg_json.specs.declared.json.JsonFault.TheVariants.{Syntax, NotWhole, TooWide, TooDeep, Repeated, NoMemory}
 use Rattle.lg_json.specs.Tokens.{begins}
@@ -24,7 +24,7 @@ use Rattle.lg_json.proofs.Whole.{json_value}
 use Rattle.lg_json.proofs.Completing.{begins_prefix, begins_as, value_begins}
 use Rattle.lg_json.proofs.Fitting.{name_begins}
 use Rattle.lg_json.proofs.Faults.{take_past, reading_faults}
-use Rattle.lg_json.proofs.Fronts.{Leads, opening, name_opening, opening_ready, name_opening_ready, Comes, value_comes, next_name_comes}
+use Rattle.lg_json.proofs.Fronts.{Leads, opening, name_opening, opening_ready, name_opening_ready, value_comes, next_name_comes}
 use Rattle.lg_json.proofs.Fronts.Leads.{leads, faults}
 
 -- a text that fits follows the same bytes, so no fault has come

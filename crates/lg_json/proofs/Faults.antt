@@ -1,15 +1,15 @@
 -- Each fault of the reading is the first fault of the bytes.
-use Rattle.std.proofs.Common.{◌≡◌, ℕ, zero, suc, ◌+◌, ◌-◌, ◌<◌, ◌≤◌, ◌⊎◌, Bool, true, false, cond, nat_lt, ◌==◌, List, [], ◌∷◌, ◌++◌, length, take, Option, Some, None, Result, Ok, Err, IfOk, IfErr, ℤ, refl, sym, ap, ◌∙◌, subst, inl, inr, arith, append_assoc, append-nil, eqb-true, ltb-false}
+use Rattle.std.proofs.Common.{◌≡◌, ℕ, zero, suc, ◌+◌, ◌-◌, ◌<◌, ◌≤◌, ◌⊎◌, Bool, true, false, nat_lt, ◌==◌, List, [], ◌∷◌, ◌++◌, length, take, Option, Some, None, Result, Ok, Err, IfOk, IfErr, refl, sym, ap, ◌∙◌, subst, inl, inr, arith, append_assoc, append-nil, eqb-true, ltb-false}
 use Rattle.std.proofs.lemmas.Bool.{cond_both, false≢true}
 use Rattle.std.proofs.lemmas.List.{length-append, take_at}
-use Rattle.lg_json.specs.Tree.{Tree, Entry, trees, entries}
-use Rattle.lg_json.specs.Tree.Tree.{null, whole, text, list, members}
-use Rattle.lg_json.specs.Grammar.{IsInt, IsWhole, number_from, signed, minus_if, IsString, IsJson, InRange, IsNew, Fits}
-use Rattle.lg_json.specs.Reading.{Frame, Mode, State, at, is_blank, is_digit, with_value, complete, open_frame, begin, follow_on, follow, after, capped, fits, begins_part, end_number, closes, has_name, with_name, end_text, text_step, in_text_step, TextState, word_step, close_empty, step, whole_text, finish, and_then, reads, reading}
+use Rattle.lg_json.specs.Tree.{Tree, entries}
+use Rattle.lg_json.specs.Tree.Tree.{whole, members}
+use Rattle.lg_json.specs.Grammar.{IsInt, IsWhole, number_from, signed, minus_if, IsString, IsJson, InRange}
+use Rattle.lg_json.specs.Reading.{Frame, Mode, State, at, is_blank, is_digit, with_value, begin, follow_on, follow, after, capped, fits, begins_part, end_number, closes, has_name, end_text, text_step, in_text_step, TextState, word_step, close_empty, step, whole_text, finish, and_then, reads, reading}
 use Rattle.lg_json.specs.Reading.Frame.{in_list, in_object, named}
 use Rattle.lg_json.specs.Reading.Mode.{before_value, before_first, before_first_name, before_name, before_colon, in_word, after_minus, after_zero, in_digits, in_text, after_item, ended}
-use Rattle.lg_json.specs.Before.{BeforeName, BeforeValue}
-use Rattle.lg_json.specs.Fault.{Begins, BeginsFitting, NotJson, IsLongestFront, Before, EndsNumber, IsSyntax, IsNotWhole, IsTooWide, IsTooDeep, IsRepeated, IsFault}
+use Rattle.lg_json.specs.Before.{BeforeValue}
+use Rattle.lg_json.specs.Fault.{Begins, BeginsFitting, NotJson, Before, IsSyntax, IsNotWhole, IsTooWide, IsTooDeep, IsRepeated, IsFault}
 use Rattle.lg_json.specs.declared.json.JsonFault.{JsonFault}
 use Rattle.lg_json.specs.declared.json.JsonFault.TheVariants.{Syntax, NotWhole, TooWide, TooDeep, Repeated, NoMemory}
 use Rattle.lg_json.specs.Reading.{Role}
@@ -19,14 +19,14 @@ use Rattle.lg_containers.specs.declared.utf8.Utf8State.TheVariants.{Boundary}
 use Rattle.lg_json.proofs.Meets.{IsOther}
 use Rattle.lg_json.specs.Texts.{Spelled}
 use Rattle.lg_json.proofs.Standing.{DigitsStand, RoleStands, FirstStands, Stands, StandsAt}
-use Rattle.lg_json.proofs.Sound.{Keeps, step_keeps, Closes, closes_at}
+use Rattle.lg_json.proofs.Sound.{Keeps, step_keeps, closes_at}
 use Rattle.lg_json.proofs.Names.{not_new}
 use Rattle.lg_json.proofs.Goes.{in_range_fits}
 use Rattle.lg_json.proofs.Fit.{FramesFit, ModeFits, StateFits, step_fits}
 use Rattle.lg_json.proofs.Whole.{Reads, json_reads}
 use Rattle.lg_json.proofs.Whole.Reads.{value, fault}
 use Rattle.lg_json.proofs.Completing.{fitting_begins}
-use Rattle.lg_json.proofs.Fitting.{before_fitting, before_name_fitting, NumberFits, zero_fits, stands_fitting}
+use Rattle.lg_json.proofs.Fitting.{before_fitting, before_name_fitting, zero_fits, stands_fitting}
 
 -- a fault at the byte at the place i, after `front`
 abbrev pub StepFault : List ℕ → ℕ → List ℕ → JsonFault → Type 0

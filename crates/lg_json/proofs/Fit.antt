@@ -1,10 +1,10 @@
 -- What the reading keeps open fits, and so does each value that it completes.
-use Rattle.std.proofs.Common.{◌≡◌, ℕ, zero, suc, ◌+◌, ◌-◌, ◌^◌, ◌<◌, ◌≤◌, Bool, true, false, cond, nat_lt, nat_le, ◌==◌, List, [], ◌∷◌, ◌++◌, length, Option, Some, None, Result, Ok, Err, IfOk, ℤ, pos, negsuc, neg_ℤ, refl, sym, ap, ◌∙◌, subst, arith, ltb-true}
+use Rattle.std.proofs.Common.{◌≡◌, ℕ, zero, suc, ◌-◌, ◌^◌, ◌<◌, ◌≤◌, Bool, true, false, nat_lt, ◌==◌, List, [], ◌∷◌, length, Option, Some, None, Result, Ok, Err, IfOk, refl, sym, subst, arith, ltb-true}
 use Rattle.std.proofs.lemmas.Bool.{cond_both, leb-true}
-use Rattle.lg_json.specs.Tree.{Tree, Trees, Members, Entry, trees, entries}
-use Rattle.lg_json.specs.Tree.Tree.{null, truth, whole, text, list, members}
+use Rattle.lg_json.specs.Tree.{Tree, Entry, trees, entries}
+use Rattle.lg_json.specs.Tree.Tree.{whole, text, list, members}
 use Rattle.lg_json.specs.Grammar.{signed, InRange, Fits, AllFit, MembersFit}
-use Rattle.lg_json.specs.Reading.{Frame, Mode, State, at, is_blank, is_digit, with_value, complete, open_frame, begin, follow_on, follow, after, fits, begins_part, end_number, closes, has_name, with_name, end_text, text_step, in_text_step, TextState, word_step, close_empty, step, whole_text, finish, and_then, reads, reading}
+use Rattle.lg_json.specs.Reading.{Frame, Mode, State, at, is_blank, is_digit, with_value, complete, begin, follow_on, follow, after, fits, begins_part, end_number, closes, has_name, with_name, end_text, text_step, in_text_step, TextState, word_step, close_empty, step, whole_text, finish, and_then, reads, reading}
 use Rattle.lg_json.specs.Reading.Frame.{in_list, in_object, named}
 use Rattle.lg_json.specs.Reading.Mode.{before_value, before_first, before_first_name, before_name, before_colon, in_word, after_minus, after_zero, in_digits, in_text, after_item, ended}
 use Rattle.lg_json.specs.declared.json.JsonFault.{JsonFault}

@@ -1,20 +1,19 @@
 -- The reading comes over what stands before a value to the state there, if no fault comes.
-use Rattle.std.proofs.Common.{◌≡◌, ℕ, suc, ◌+◌, ◌<◌, ◌≤◌, Bool, true, false, cond, nat_lt, ◌==◌, List, [], ◌∷◌, ◌++◌, length, Result, Ok, Err, inl, inr, refl, sym, ap, ◌∙◌, subst, arith, append_assoc, append-nil}
+use Rattle.std.proofs.Common.{◌≡◌, ℕ, suc, ◌+◌, nat_lt, List, [], ◌∷◌, ◌++◌, length, Ok, Err, inl, inr, refl, ap, ◌∙◌, arith, append_assoc}
 use Rattle.std.proofs.lemmas.Bool.{cond-true, cond-false, cases_Bool}
 use Rattle.std.proofs.lemmas.List.{length-append}
 use Rattle.lg_json.specs.Tree.{Tree, Entry, trees, entries}
-use Rattle.lg_json.specs.Grammar.{IsBlank, AreItems, AreMembers, IsString}
-use Rattle.lg_json.specs.Reading.{Frame, Mode, State, at, has_name, with_name, begin, and_then, reads, reading}
+use Rattle.lg_json.specs.Grammar.{IsBlank, IsString}
+use Rattle.lg_json.specs.Reading.{Frame, Mode, at, has_name, and_then, reads, reading}
 use Rattle.lg_json.specs.Reading.Frame.{in_list, in_object, named}
 use Rattle.lg_json.specs.Reading.Mode.{before_value, before_first, before_first_name, before_name, before_colon, after_item}
 use Rattle.lg_json.specs.Before.{BeforeItem, BeforeName, BeforeNamed, BeforeValue}
 use Rattle.lg_json.specs.declared.json.JsonFault.{JsonFault}
 use Rattle.lg_json.specs.declared.json.JsonFault.TheVariants.{TooDeep, Repeated}
 use Rattle.lg_json.proofs.Meets.{Meets, IsOther, Outcome, Any}
-use Rattle.lg_json.specs.Tokens.{Passes, begins}
-use Rattle.lg_json.proofs.Reaches.{reads_one, reads_at, past_blanks, value_passes, first_passes, first_name_passes, name_passes, colon_passes, begins_at}
+use Rattle.lg_json.proofs.Reaches.{reads_one, past_blanks, value_passes, first_passes, first_name_passes, name_passes, colon_passes, begins_at}
 use Rattle.lg_json.proofs.Names.{list_of, entries_of}
-use Rattle.lg_json.proofs.Goes.{Ready, value_ready, first_ready, NameReady, first_name_ready, name_ready, Delimits, comma, items_go, members_go, all_go, members_all_go, value_goes, quoted_reads, begin_list, begin_object, comma_item, comma_member, colon_step}
+use Rattle.lg_json.proofs.Goes.{Ready, value_ready, first_ready, NameReady, first_name_ready, name_ready, comma, items_go, members_go, all_go, members_all_go, value_goes, quoted_reads, begin_list, begin_object, comma_item, comma_member, colon_step}
 
 -- x goes on as y before each rest, or one fault comes before each
 pub data Leads (x y : Outcome) : Type 0 where

@@ -1,29 +1,28 @@
 -- The reading takes the bytes of each value that fits to the state after it.
-use Rattle.std.proofs.Common.{◌≡◌, ℕ, zero, suc, ◌+◌, ◌-◌, ◌*◌, ◌^◌, ◌<◌, ◌≤◌, ◌⊎◌, min, Bool, true, false, cond, ◌||◌, nat_lt, nat_le, ◌==◌, List, [], ◌∷◌, ◌++◌, length, Result, Ok, Err, ℤ, pos, negsuc, neg_ℤ, codes, refl, sym, ap, ◌∙◌, subst, inl, inr, arith, append_assoc, append-nil, eqb-true, ltb-true, ltb-false}
-use Rattle.std.proofs.lemmas.Bool.{cond-true, cond-false, cases_Bool, cases_lt, lt-ltb, le-ltb, ne_eqb, leb-true, le-leb, lt-leb, false≢true}
+use Rattle.std.proofs.Common.{◌≡◌, ℕ, zero, suc, ◌+◌, ◌-◌, ◌^◌, ◌<◌, ◌≤◌, ◌⊎◌, Bool, true, false, cond, nat_lt, ◌==◌, List, [], ◌∷◌, ◌++◌, length, Result, Ok, Err, ℤ, refl, sym, ap, ◌∙◌, subst, inl, inr, arith, append_assoc, append-nil, ltb-true, ltb-false}
+use Rattle.std.proofs.lemmas.Bool.{cond-true, cond-false, cases_Bool, lt-ltb, ne_eqb, leb-true, le-leb, false≢true}
 use Rattle.std.proofs.lemmas.List.{length-append}
 use lib.Utf8.{encodes}
 use Rattle.lg_json.specs.Tree.{Tree, Trees, Members, Entry, trees, entries}
 use Rattle.lg_json.specs.Tree.Tree.{null, truth, whole, part, text, list, members}
 use Rattle.lg_json.specs.Tree.Trees.{none, item}
 use Rattle.lg_json.specs.Tree.Members.{no_member, member}
-use Rattle.lg_json.specs.Grammar.{IsBlank, IsBlankByte, IsInt, IsPositive, IsWhole, IsFraction, IsExponent, IsFractionAndExponent, IsPart, number_from, signed, minus_if, Padded, IsString, IsMember, IsValue, AreItems, AreMembers, IsJson, InRange, IsNew, Fits, AllFit, MembersFit}
-use Rattle.lg_json.specs.Reading.{Frame, Mode, State, at, is_blank, is_digit, with_value, complete, begin, capped, fits, begins_part, has_name, with_name, end_text, closes, step, finish, and_then, reads, reading}
+use Rattle.lg_json.specs.Grammar.{IsBlank, IsBlankByte, IsInt, IsFraction, IsExponent, IsFractionAndExponent, number_from, signed, minus_if, Padded, IsString, IsMember, IsValue, AreItems, AreMembers, InRange, Fits, AllFit, MembersFit}
+use Rattle.lg_json.specs.Reading.{Frame, Mode, at, is_blank, is_digit, complete, begin, capped, fits, begins_part, has_name, with_name, end_text, step, and_then, reads}
 use Rattle.lg_json.specs.Reading.Frame.{in_list, in_object, named}
-use Rattle.lg_json.specs.Reading.Mode.{before_value, before_first, before_first_name, before_name, before_colon, in_text, after_item, ended}
+use Rattle.lg_json.specs.Reading.Mode.{before_value, before_first, before_first_name, before_name, before_colon, in_text, after_item}
 use Rattle.lg_json.specs.Fault.{EndsNumber}
 use Rattle.lg_json.specs.declared.json.JsonFault.{JsonFault}
-use Rattle.lg_json.specs.declared.json.JsonFault.TheVariants.{Syntax, NotWhole, TooWide, TooDeep, Repeated}
+use Rattle.lg_json.specs.declared.json.JsonFault.TheVariants.{NotWhole, TooWide, TooDeep, Repeated}
 use Rattle.lg_json.specs.Reading.{Role}
-use Rattle.lg_json.specs.declared.state.TextMode.{TextMode}
 use Rattle.lg_json.specs.declared.state.TextMode.TheVariants.{Character}
 use Rattle.lg_containers.specs.declared.utf8.Utf8State.TheVariants.{Boundary}
-use Rattle.lg_json.proofs.Meets.{Meets, IsOther, Any, then_on, meets_from, meets_under, meets_before}
+use Rattle.lg_json.proofs.Meets.{Meets, Any, then_on, meets_from, meets_under, meets_before}
 use Rattle.lg_json.proofs.Meets.Meets.{goes, stops}
 use Rattle.lg_json.specs.Tokens.{Passes, begins}
-use Rattle.lg_json.proofs.Reaches.{reads_one, reads_stop, reads_none, reads_at, blank_test, past_blanks, value_passes, first_passes, first_name_passes, name_passes, colon_passes, item_passes, end_passes, begins_at, value_begins, first_begins, word_null, word_true, word_false, IsInNumber, number_goes}
+use Rattle.lg_json.proofs.Reaches.{reads_one, reads_at, past_blanks, value_passes, first_passes, first_name_passes, name_passes, colon_passes, item_passes, begins_at, value_begins, first_begins, word_null, word_true, word_false, number_goes}
 use Rattle.lg_json.proofs.TextRuns.{chars_run, text_reads}
-use Rattle.lg_json.proofs.Names.{has_name-push, AllNew, new_to_none, all_new_push, list_of, entries_of, trees-list_of, entries-entries_of}
+use Rattle.lg_json.proofs.Names.{AllNew, new_to_none, all_new_push, list_of, entries_of, trees-list_of, entries-entries_of}
 
 -- the room for what is in the innermost of what is open
 abbrev pub room_in : List Frame → ℕ

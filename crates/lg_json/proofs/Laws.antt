@@ -1,5 +1,5 @@
 -- What is read, from the equation with the reading of the bytes.
-use Rattle.std.proofs.Common.{◌≡◌, ℕ, List, Result, Ok, Err, IfOk, IfErr, refl, sym, ap, ◌∙◌, subst}
+use Rattle.std.proofs.Common.{ℕ, List, Result, Ok, Err, IfOk, IfErr, subst}
 use Rattle.lg_json.specs.Tree.{Tree, tree}
 use Rattle.lg_json.specs.Grammar.{IsJson, Fits}
 use Rattle.lg_json.specs.Reading.{reading}

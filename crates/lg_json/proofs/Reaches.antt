@@ -1,16 +1,15 @@
 -- What the reading comes to over blanks, words and numbers.
-use Rattle.std.proofs.Common.{◌≡◌, ℕ, zero, suc, ◌+◌, ◌-◌, ◌*◌, ◌^◌, ◌<◌, ◌≤◌, ◌⊎◌, min, Bool, true, false, cond, ◌||◌, ◌&&◌, nat_lt, nat_le, ◌==◌, List, [], ◌∷◌, ◌++◌, length, Result, Ok, Err, ℤ, pos, negsuc, neg_ℤ, codes, refl, sym, ap, ◌∙◌, subst, inl, inr, arith, append_assoc, append-nil, eqb-true, ltb-true, ltb-false}
-use Rattle.std.proofs.lemmas.Bool.{cond_both, cond-true, cond-false, eqb-false, leb-true, leb-false, le-leb, lt-leb, lt-ltb, le-ltb, ne_eqb, eq-eqb, and_from, or_cases, cases_Bool}
-use Rattle.lg_json.specs.Tree.{Tree, Entry, trees, entries}
-use Rattle.lg_json.specs.Tree.Tree.{null, truth, whole, part, text, list, members}
-use Rattle.lg_json.specs.Grammar.{IsBlank, IsBlankByte, IsDigit, AreDigits, IsPositive, IsInt, IsWhole, number_from, signed, minus_if, InRange}
-use Rattle.lg_json.specs.Reading.{Frame, Mode, State, at, is_blank, is_digit, with_value, complete, begin, follow, after, capped, fits, begins_part, end_number, step, whole_text, finish, and_then, reads}
+use Rattle.std.proofs.Common.{◌≡◌, ℕ, suc, ◌+◌, ◌-◌, ◌*◌, ◌^◌, ◌<◌, ◌≤◌, ◌⊎◌, Bool, true, false, nat_le, ◌==◌, List, [], ◌∷◌, ◌++◌, length, Result, Ok, Err, codes, refl, sym, ap, ◌∙◌, subst, inl, inr, arith, eqb-true, ltb-false}
+use Rattle.std.proofs.lemmas.Bool.{cond-true, cond-false, leb-false, le-leb, lt-leb, le-ltb, ne_eqb, and_from, or_cases, cases_Bool}
+use Rattle.lg_json.specs.Tree.{Tree}
+use Rattle.lg_json.specs.Tree.Tree.{null, truth, whole}
+use Rattle.lg_json.specs.Grammar.{IsBlank, IsBlankByte, IsDigit, AreDigits, IsInt, number_from, signed, minus_if}
+use Rattle.lg_json.specs.Reading.{Frame, Mode, State, at, is_blank, is_digit, complete, begin, after, capped, fits, begins_part, end_number, step, whole_text, finish, and_then, reads}
 use Rattle.lg_json.specs.Fault.{EndsNumber}
 use Rattle.lg_json.specs.Tokens.{Passes, begins}
-use Rattle.lg_json.specs.Reading.Frame.{in_list, in_object, named}
-use Rattle.lg_json.specs.Reading.Mode.{before_value, before_first, before_first_name, before_name, before_colon, in_word, after_minus, after_zero, in_digits, in_text, after_item, ended}
+use Rattle.lg_json.specs.Reading.Mode.{before_value, before_first, before_first_name, before_name, before_colon, after_minus, after_zero, in_digits, after_item, ended}
 use Rattle.lg_json.specs.declared.json.JsonFault.{JsonFault}
-use Rattle.lg_json.specs.declared.json.JsonFault.TheVariants.{Syntax, NotWhole, TooWide, TooDeep, Repeated}
+use Rattle.lg_json.specs.declared.json.JsonFault.TheVariants.{NotWhole, TooWide}
 
 abbrev pub continue : ℕ → List ℕ → State → Result Tree JsonFault
 continue i bs s = reads i s bs

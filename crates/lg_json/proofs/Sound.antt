@@ -1,22 +1,21 @@
 -- The reading keeps what stands before it, so that a value that it gives is that of its bytes.
-use Rattle.std.proofs.Common.{◌≡◌, ℕ, suc, ◌+◌, ◌-◌, ◌*◌, ◌^◌, ◌<◌, ◌≤◌, ◌⊎◌, min, Bool, true, false, cond, nat_lt, nat_le, ◌==◌, List, [], ◌∷◌, ◌++◌, length, Result, Ok, Err, IfOk, ℤ, pos, neg_ℤ, codes, refl, sym, ap, ◌∙◌, subst, inl, inr, arith, append_assoc, append-nil, eqb-true, ltb-true, Option, Some, None}
+use Rattle.std.proofs.Common.{◌≡◌, ℕ, suc, ◌+◌, ◌-◌, ◌*◌, ◌^◌, ◌<◌, ◌≤◌, Bool, true, false, nat_lt, ◌==◌, List, [], ◌∷◌, ◌++◌, length, Result, Ok, Err, IfOk, refl, sym, ap, ◌∙◌, subst, inl, inr, arith, append_assoc, append-nil, eqb-true, ltb-true, Option, Some, None}
 use Rattle.std.proofs.lemmas.Bool.{cond_both, eqb-false, leb-true}
 use Rattle.std.proofs.lemmas.List.{length-append}
-use Rattle.lg_json.specs.Tree.{Tree, Entry, trees, entries}
-use Rattle.lg_json.specs.Tree.Tree.{null, truth, whole, text, list, members}
-use Rattle.lg_json.specs.Grammar.{IsBlank, IsBlankByte, IsDigit, IsPositive, IsInt, IsWhole, number_from, signed, minus_if, Padded, IsString, IsMember, IsValue, AreItems, AreMembers, IsJson}
-use Rattle.lg_json.specs.Reading.{Frame, Mode, State, at, is_blank, is_digit, with_value, complete, open_frame, begin, follow_on, follow, after, capped, fits, begins_part, end_number, closes, has_name, with_name, end_text, text_step, in_text_step, TextState, word_step, close_empty, begin_name, step, whole_text, finish, and_then, reads, reading}
+use Rattle.lg_json.specs.Tree.{Tree, trees, entries}
+use Rattle.lg_json.specs.Tree.Tree.{whole, text, list, members}
+use Rattle.lg_json.specs.Grammar.{IsBlank, IsBlankByte, IsDigit, IsPositive, IsInt, IsWhole, number_from, signed, minus_if, IsString, IsMember, IsValue, IsJson}
+use Rattle.lg_json.specs.Reading.{Frame, Mode, State, at, is_blank, is_digit, with_value, complete, begin, follow_on, follow, after, capped, fits, begins_part, end_number, closes, has_name, end_text, text_step, in_text_step, TextState, word_step, close_empty, step, whole_text, finish, and_then, reads, reading}
 use Rattle.lg_json.specs.Reading.Frame.{in_list, in_object, named}
 use Rattle.lg_json.specs.Reading.Mode.{before_value, before_first, before_first_name, before_name, before_colon, in_word, after_minus, after_zero, in_digits, in_text, after_item, ended}
-use Rattle.lg_json.specs.Before.{BeforeItem, BeforeName, BeforeNamed, BeforeValue}
+use Rattle.lg_json.specs.Before.{BeforeValue}
 use Rattle.lg_json.specs.declared.json.JsonFault.{JsonFault}
-use Rattle.lg_json.specs.declared.json.JsonFault.TheVariants.{Syntax, NotWhole, TooWide, TooDeep, Repeated}
 use Rattle.lg_json.specs.Reading.{Role}
 use Rattle.lg_json.specs.declared.state.TextMode.{TextMode}
 use Rattle.lg_json.specs.declared.state.TextMode.TheVariants.{Character, Escape, Unit as UnitMode, AfterHigh, AfterHighEscape, Low}
 use Rattle.lg_containers.specs.declared.utf8.Utf8State.TheVariants.{Boundary, Inside}
 use Rattle.lg_json.specs.Texts.{Spelled, TextStands}
-use Rattle.lg_json.proofs.Standing.{DigitsStand, WordStands, MinusStands, ZeroStands, RoleStands, FirstStands, FirstNameStands, NextNameStands, ColonStands, ItemStands, EndStands, Stands, StandsAt}
+use Rattle.lg_json.proofs.Standing.{DigitsStand, WordStands, RoleStands, FirstStands, FirstNameStands, NextNameStands, ColonStands, ItemStands, EndStands, Stands, StandsAt}
 use Rattle.lg_json.proofs.Lists.{blank_byte, digit_byte, all_snoc, blank_snoc, snoc, snoc2, snoc3, padded, padded_snoc, items_snoc, members_snoc, items_push, members_push}
 use Rattle.lg_json.proofs.Texts.{spelled_none, TextGoesOn, text_goes_on}
 

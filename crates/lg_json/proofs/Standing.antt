@@ -1,18 +1,13 @@
 -- What the bytes that were read are, in each state of the reading.
-use Rattle.std.proofs.Common.{◌≡◌, ℕ, ◌+◌, ◌*◌, ◌<◌, ◌≤◌, ◌⊎◌, Bool, List, [], ◌∷◌, ◌++◌, length}
-use Rattle.std.specs.Char.{digit_value}
-use Rattle.std.specs.Str.{encode_utf8_all}
-use Rattle.lg_containers.specs.Utf8.{BeginsChar}
-use Rattle.lg_containers.specs.declared.utf8.Utf8State.TheVariants.{Boundary, Inside}
+use Rattle.std.proofs.Common.{◌≡◌, ℕ, Bool, List, [], ◌∷◌, ◌++◌, length}
 use Rattle.lg_json.specs.Tree.{Tree, Entry, trees, entries}
-use Rattle.lg_json.specs.Grammar.{IsBlank, IsHexDigit, IsPositive, number_from, minus_if, IsUnit, IsHigh, AreChars, IsString, IsValue, AreItems, AreMembers, IsJson}
+use Rattle.lg_json.specs.Grammar.{IsBlank, IsPositive, number_from, minus_if, IsString, IsValue, AreItems, AreMembers, IsJson}
 use Rattle.lg_json.specs.Reading.{Frame, Mode, State, capped}
 use Rattle.lg_json.specs.Reading.Frame.{in_list, in_object, named}
 use Rattle.lg_json.specs.Reading.Mode.{before_value, before_first, before_first_name, before_name, before_colon, in_word, after_minus, after_zero, in_digits, in_text, after_item, ended}
 use Rattle.lg_json.specs.Texts.{TextStands}
 use Rattle.lg_json.specs.Before.{BeforeName, BeforeValue}
 use Rattle.lg_json.specs.declared.state.TextMode.{TextMode}
-use Rattle.lg_json.specs.declared.state.TextMode.TheVariants.{Character, Escape, Unit as UnitMode, AfterHigh, AfterHighEscape, Low}
 use Rattle.lg_json.specs.Reading.{Role}
 
 -- a number's digits so far

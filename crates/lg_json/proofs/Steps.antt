@@ -1,12 +1,11 @@
 -- What a step of the reader comes to.
-use Rattle.std.proofs.Common.{◌≡◌, ◌≢◌, ◌⊎◌, ℕ, zero, suc, ◌+◌, ◌-◌, ◌<◌, ◌≤◌, Bool, true, false, nat_lt, ◌==◌, List, [], ◌∷◌, ◌++◌, length, get_or, drop, slice_get, map, Option, Some, None, option_map, Result, Ok, Err, refl, sym, ap, ◌∙◌, subst, inl, inr, arith}
+use Rattle.std.proofs.Common.{◌≡◌, ◌≢◌, ℕ, suc, ◌+◌, ◌<◌, ◌≤◌, true, false, ◌==◌, List, [], ◌∷◌, length, get_or, drop, slice_get, Some, None, Result, Ok, Err, refl, sym, ap, ◌∙◌, subst, inl, inr, arith}
 use Rattle.std.proofs.lemmas.List.{drop_more}
-use Rattle.std.proofs.lemmas.Bool.{cond-true, cond-false, ne_eqb, false_from_ne_true, and_parts, leb-true}
-use Rattle.lg_json.specs.Tree.{Tree, Entry, tree, trees, entries}
-use Rattle.lg_json.specs.Tree.Tree.{whole, text, list, members}
+use Rattle.std.proofs.lemmas.Bool.{cond-false, ne_eqb, false_from_ne_true}
+use Rattle.lg_json.specs.Tree.{Tree, tree, trees, entries}
+use Rattle.lg_json.specs.Tree.Tree.{text, list, members}
 use Rattle.lg_json.specs.Grammar.{IsDigit}
-use Rattle.lg_json.specs.Reading.{Frame, Mode, Role, State, at, is_blank, is_digit, complete, close_empty, open_frame, begin, begin_name, follow_on, end_text, with_name, step, finish, and_then, reads, reading}
-use Rattle.lg_json.specs.Reading as machine
+use Rattle.lg_json.specs.Reading.{Frame, Mode, Role, State, at, is_blank, is_digit, complete, close_empty, open_frame, begin, begin_name, follow_on, with_name, step, finish, and_then, reads, reading}
 use Rattle.lg_json.specs.Reading.Frame.{in_list, in_object, named}
 use Rattle.lg_json.specs.Reading.Mode.{before_value, before_first, before_first_name, before_name, before_colon, in_word, in_text, after_item, ended}
 use Rattle.lg_json.specs.View.{view, frame_view, frames_view, next_view, Gives, Fails, comma_mode, placed}
@@ -21,7 +20,7 @@ use Rattle.lg_json.specs.declared.state.TextMode.TheVariants.{Character}
 use Rattle.lg_containers.specs.declared.utf8.Utf8State.TheVariants.{Boundary}
 use Rattle.lg_json.proofs.Reaches.{reads_at, value_begins, first_begins, value_passes, first_passes, first_name_passes, name_passes, colon_passes, item_passes, end_passes}
 use Rattle.lg_json.proofs.Lists.{digit_byte}
-use Rattle.lg_json.proofs.Tokens.{one_byte, stop_byte, no_byte, begins_byte, begins_stop}
+use Rattle.lg_json.proofs.Tokens.{stop_byte, no_byte, begins_byte, begins_stop}
 
 -- the frame on top, and a comma
 pub comma_none : (place : ℕ) (fs : List OpenFrame) → None ≡ slice_get fs 0 → follow_on place (frames_view fs) 44 ≡ Err (Syntax place)

@@ -1,21 +1,19 @@
 -- What the reading comes to over the characters of a text.
-use Rattle.std.proofs.Common.{◌≡◌, ℕ, suc, ◌+◌, ◌-◌, ◌*◌, ◌%◌, ◌<◌, ◌≤◌, ◌⊎◌, Bool, true, false, cond, nat_lt, nat_le, ◌==◌, ◌&&◌, List, [], ◌∷◌, ◌++◌, length, Option, Some, None, IsSomeAnd, Result, Ok, Err, refl, sym, ap, ◌∙◌, subst, inl, inr, arith, append_assoc, append-nil, mod-eq_of_lt}
-use Rattle.std.proofs.lemmas.Bool.{cond-true, cond-false, lt-ltb, le-ltb, le-leb, lt-leb, ne_eqb, eq-eqb, and_from, and_left, and_right, cases_lt, cases_Bool, and_parts, leb-true}
+use Rattle.std.proofs.Common.{◌≡◌, ℕ, suc, ◌+◌, ◌*◌, ◌<◌, ◌≤◌, ◌⊎◌, true, false, nat_lt, nat_le, ◌==◌, List, [], ◌∷◌, ◌++◌, length, Option, Some, None, IsSomeAnd, Ok, refl, sym, ap, ◌∙◌, subst, inl, inr, arith, append_assoc, append-nil, mod-eq_of_lt}
+use Rattle.std.proofs.lemmas.Bool.{cond-true, cond-false, lt-ltb, le-ltb, le-leb, ne_eqb, and_from, cases_lt, cases_Bool, and_parts, leb-true}
 use Rattle.std.proofs.lemmas.Str.{encode_ascii}
 use Rattle.std.specs.Char.{IsScalar, encode_utf8, digit_value}
-use lib.Utf8.{scalar, encodes}
+use lib.Utf8.{encodes}
 use Rattle.lg_containers.specs.Utf8.{utf8_step, lead_state, Finishes}
-use Rattle.lg_containers.specs.Utf8Laws.{LeadOf, lead_of, lead_ascii}
+use Rattle.lg_containers.specs.Utf8Laws.{lead_of, lead_ascii}
 use Rattle.lg_containers.specs.TextLaws.{step_at_boundary}
 use Rattle.lg_containers.specs.declared.utf8.Utf8State.{Utf8State}
 use Rattle.lg_containers.specs.declared.utf8.Utf8State.TheVariants.{Boundary, Inside}
-use Rattle.lg_json.specs.Tree.{Tree}
-use Rattle.lg_json.specs.Grammar.{IsHexDigit, hex_number, IsUnit, IsHigh, IsLow, pair, IsShort, IsChar, AreChars}
+use Rattle.lg_json.specs.Grammar.{hex_number, IsHigh, IsLow, IsShort, IsChar, AreChars}
 use Rattle.lg_json.specs.Grammar.IsShort.{quote, backslash, slash, backspace, form_feed, line_feed, carriage_return, tab}
 use Rattle.lg_json.specs.Grammar.IsChar.{unescaped, short, unit, surrogates}
-use Rattle.lg_json.specs.Reading.{Frame, Mode, State, at, TextState, hex_more, joined, character_step, unit_step, low_step, text_step, closes, is_high, step, and_then, reads}
+use Rattle.lg_json.specs.Reading.{Frame, at, TextState, hex_more, joined, character_step, unit_step, low_step, text_step, closes, is_high, step, reads}
 use Rattle.lg_json.specs.Reading.Mode.{in_text}
-use Rattle.lg_json.specs.declared.json.JsonFault.{JsonFault}
 use Rattle.lg_json.specs.Reading.{Role}
 use Rattle.lg_json.specs.declared.state.TextMode.{TextMode}
 use Rattle.lg_json.specs.declared.state.TextMode.TheVariants.{Character, Escape, Unit as UnitMode, AfterHigh, AfterHighEscape, Low}

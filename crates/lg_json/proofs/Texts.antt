@@ -1,23 +1,22 @@
 -- A text between its quotes, one byte further.
-use Rattle.std.proofs.Common.{◌≡◌, ℕ, suc, ◌+◌, ◌-◌, ◌*◌, ◌%◌, ◌<◌, ◌≤◌, ◌⊎◌, Bool, true, false, cond, nat_lt, nat_le, ◌==◌, ◌&&◌, List, [], ◌∷◌, ◌++◌, Option, Some, None, IfSome, IsUtf8, refl, sym, ap, ◌∙◌, subst, inl, inr, arith, append_assoc, append-nil, eqb-true, ltb-true, ltb-false, mod-eq_of_lt}
-use Rattle.std.proofs.lemmas.Bool.{cond_both, le-ltb, lt-ltb, eqb-false, and_parts, leb-true, and_cases, leb-false, false≢true, cases_lt}
+use Rattle.std.proofs.Common.{◌≡◌, ℕ, ◌+◌, ◌-◌, ◌*◌, ◌%◌, ◌<◌, ◌≤◌, true, false, cond, nat_lt, nat_le, ◌==◌, List, [], ◌∷◌, ◌++◌, Option, Some, None, refl, sym, ap, ◌∙◌, subst, inl, inr, arith, append_assoc, append-nil, eqb-true, ltb-true, ltb-false, mod-eq_of_lt}
+use Rattle.std.proofs.lemmas.Bool.{cond_both, eqb-false, and_parts, leb-true, and_cases, leb-false}
 use Rattle.std.proofs.lemmas.Str.{encode_ascii}
-use Rattle.std.specs.Char.{IsScalar, encode_utf8, digit_value}
-use Rattle.std.specs.Str.{encode_utf8_all}
-use lib.Utf8.{scalar, scalars, encodes, low_scalar}
-use Rattle.lg_containers.specs.Utf8.{utf8_step, lead_state, Finishes, BeginsChar}
+use Rattle.std.specs.Char.{encode_utf8, digit_value}
+use lib.Utf8.{encodes, low_scalar}
+use Rattle.lg_containers.specs.Utf8.{utf8_step, lead_state}
 use Rattle.lg_containers.specs.Utf8Laws.{LeadGives, lead_begins, StepGives, step_begins}
-use Rattle.lg_containers.specs.TextLaws.{step_at_boundary, AllLive, IsLive, step_live}
+use Rattle.lg_containers.specs.TextLaws.{step_at_boundary, AllLive, step_live}
 use Rattle.lg_containers.specs.declared.utf8.Utf8State.{Utf8State}
 use Rattle.lg_containers.specs.declared.utf8.Utf8State.TheVariants.{Boundary, Inside}
-use Rattle.lg_json.specs.Grammar.{IsHexDigit, hex_number, IsUnit, IsHigh, IsLow, pair, IsShort, IsChar, AreChars, IsString}
+use Rattle.lg_json.specs.Grammar.{IsHexDigit, hex_number, IsUnit, IsHigh, IsLow, pair, IsShort, IsChar, AreChars}
 use Rattle.lg_json.specs.Grammar.IsShort.{quote, backslash, slash, backspace, form_feed, line_feed, carriage_return, tab}
 use Rattle.lg_json.specs.Grammar.IsChar.{unescaped, short, unit, surrogates}
 use Rattle.lg_json.specs.Reading.{TextState, hex_more, joined, character_step, escape_step, unit_step, low_step, text_step, short_escape, closes, is_high}
 use Rattle.lg_json.specs.declared.state.TextMode.{TextMode}
 use Rattle.lg_json.specs.declared.state.TextMode.TheVariants.{Character, Escape, Unit as UnitMode, AfterHigh, AfterHighEscape, Low}
 use Rattle.lg_json.specs.Texts.{Spelled, IsNoLow, UnitDigits, LowDigits, TextStands}
-use Rattle.lg_json.proofs.Lists.{snoc, snoc2, snoc3}
+use Rattle.lg_json.proofs.Lists.{snoc, snoc2}
 
 -- one more character
 chars_push : (cs : List ℕ) (c : ℕ) (inner bytes : List ℕ) → AreChars cs inner → IsChar c bytes → AreChars (cs ++ c ∷ []) (inner ++ bytes)

@@ -1,21 +1,21 @@
 -- What the parts of the reading come to over some bytes.
-use Rattle.std.proofs.Common.{slice_range, ◌≡◌, ℕ, zero, suc, ◌+◌, ◌-◌, ◌*◌, ◌<◌, ◌≤◌, ◌≢◌, Bool, true, false, nat_lt, ◌==◌, List, [], ◌∷◌, ◌++◌, length, get_or, take, drop, Option, Some, None, Result, Ok, Err, IsUtf8, inl, inr, refl, sym, ap, ◌∙◌, subst, arith, add-one, append_assoc, append-nil}
-use Rattle.std.proofs.lemmas.List.{drop_more, take_more, drop_all, length-take-le, length-append, take-append-drop, length-drop, drop-drop, get_or-drop}
+use Rattle.std.proofs.Common.{slice_range, ◌≡◌, ℕ, suc, ◌+◌, ◌-◌, ◌*◌, ◌<◌, ◌≤◌, Bool, true, false, ◌==◌, List, [], ◌∷◌, ◌++◌, length, get_or, take, drop, Some, None, Result, Ok, Err, IsUtf8, inl, inr, refl, sym, ap, ◌∙◌, subst, arith, append_assoc, append-nil}
+use Rattle.std.proofs.lemmas.List.{drop_more, take_more, drop_all, length-take-le, take-append-drop, length-drop, drop-drop, get_or-drop}
 use Rattle.std.proofs.lemmas.Bool.{cond-true, cond-false, cases_lt, ne_eqb, eq-eqb, true≢false}
 use Rattle.std.proofs.lemmas.Str.{encode_ascii}
 use Rattle.std.specs.List.{AllByRecursion}
 use lib.Utf8.{low_scalar}
 use Rattle.lg_json.specs.Tree.{Tree}
 use Rattle.lg_json.specs.Grammar.IsChar.{unescaped}
-use Rattle.lg_json.specs.Reading.{Frame, Mode, Role, State, at, is_blank, is_digit, capped, fits, begins_part, complete, begin, end_text, closes, TextState, text_step, in_text_step, step, finish, and_then, reads}
+use Rattle.lg_json.specs.Reading.{Frame, Mode, Role, State, at, is_blank, is_digit, capped, fits, begins_part, complete, begin, end_text, closes, text_step, in_text_step, step, finish, and_then, reads}
 use Rattle.lg_json.specs.Reading.Mode.{in_text, in_word, in_digits, after_minus, after_zero}
 use Rattle.lg_json.specs.Grammar.{signed}
 use Rattle.lg_json.specs.Tree.Tree.{whole}
 use Rattle.lg_json.specs.Fault.{EndsNumber}
-use Rattle.lg_json.specs.Tokens.{Passes, Skips, TextEnds, begins, DigitsTo, IsDigits, AfterSign}
-use Rattle.lg_json.specs.Texts.{IsPlain, Spelled, StandsSome, TextStands, TextMoves}
+use Rattle.lg_json.specs.Tokens.{Skips, TextEnds, begins, DigitsTo, IsDigits, AfterSign}
+use Rattle.lg_json.specs.Texts.{IsPlain, Spelled, StandsSome, TextMoves}
 use Rattle.lg_json.specs.declared.json.JsonFault.{JsonFault}
-use Rattle.lg_json.specs.declared.json.JsonFault.TheVariants.{Syntax, NotWhole, TooWide}
+use Rattle.lg_json.specs.declared.json.JsonFault.TheVariants.{Syntax}
 use Rattle.lg_json.specs.declared.state.TextMode.{TextMode}
 use Rattle.lg_json.specs.declared.state.TextMode.TheVariants.{Character}
 use Rattle.lg_containers.specs.declared.utf8.Utf8State.TheVariants.{Boundary}

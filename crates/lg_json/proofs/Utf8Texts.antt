@@ -1,20 +1,11 @@
 -- The text of whole characters is UTF-8.
-use Rattle.std.proofs.Common.{◌≡◌, ℕ, suc, ◌+◌, ◌-◌, ◌*◌, ◌<◌, ◌≤◌, ◌⊎◌, Bool, true, false, ◌&&◌, List, [], ◌∷◌, ◌++◌, IsUtf8, refl, sym, ap, ◌∙◌, subst, inl, inr, arith}
-use Rattle.std.proofs.lemmas.Bool.{and_from, cases_lt, le-ltb, lt-ltb, le-leb}
-use Rattle.std.specs.Char.{digit_value}
-use lib.Utf8.{scalar, scalars, encodes, low_scalar}
-use Rattle.lg_containers.specs.declared.utf8.Utf8State.TheVariants.{Boundary, Inside}
-use Rattle.lg_json.specs.Grammar.{IsHigh, IsLow, pair, IsShort, IsChar, AreChars}
+use Rattle.std.proofs.Common.{◌≡◌, ℕ, ◌<◌, ◌≤◌, true, List, [], ◌∷◌, IsUtf8, refl, sym, inl, inr, arith}
+use Rattle.std.proofs.lemmas.Bool.{and_from, cases_lt, le-ltb, lt-ltb}
+use lib.Utf8.{scalar, scalars, low_scalar}
+use Rattle.lg_json.specs.Grammar.{IsHigh, IsLow, IsShort, IsChar, AreChars}
 use Rattle.lg_json.specs.Grammar.IsShort.{quote, backslash, slash, backspace, form_feed, line_feed, carriage_return, tab}
 use Rattle.lg_json.specs.Grammar.IsChar.{unescaped, short, unit, surrogates}
-use Rattle.lg_json.specs.Reading.{Frame, Mode}
-use Rattle.lg_json.specs.Reading.Frame.{in_list, in_object, named}
-use Rattle.lg_json.specs.Reading.Mode.{before_value, before_first, before_first_name, before_name, before_colon, in_word, after_minus, after_zero, in_digits, in_text, after_item, ended}
-use Rattle.lg_json.specs.Reading.{Role}
-use Rattle.lg_json.specs.declared.state.TextMode.{TextMode}
-use Rattle.lg_json.specs.declared.state.TextMode.TheVariants.{Character, Escape, Unit as UnitMode, AfterHigh, AfterHighEscape, Low}
-use Rattle.lg_json.specs.Texts.{Spelled, TextStands}
-use Rattle.lg_json.proofs.Standing.{RoleStands, Stands}
+use Rattle.lg_json.specs.Texts.{Spelled}
 
 scalar_above : (c : ℕ) → 57344 ≤ c → c < 1114112 → scalar c ≡ true
 scalar_above c low high = search (arith, le-ltb, lt-ltb)

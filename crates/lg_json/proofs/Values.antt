@@ -1,12 +1,11 @@
 -- The value of a `Json`, for each of its variants.
-use Rattle.std.proofs.Common.{◌≡◌, ℕ, Bool, List, map, ℤ, rules, sym, ap, ◌∙◌}
+use Rattle.std.proofs.Common.{◌≡◌, ℕ, Bool, List, map, sym, ap, ◌∙◌}
 use Rattle.lg_json.specs.Tree.{Tree, Entry, trees, entries, level, entry_level, tree, entry}
-use Rattle.lg_json.specs.Tree.Tree.{null, truth, whole, text, list, members}
+use Rattle.lg_json.specs.Tree.Tree.{null, truth, text, list, members}
 use Rattle.lg_json.specs.declared.json.Json.{Json}
 use Rattle.lg_json.specs.declared.json.Json.TheFolds.{fold-roll-Json}
 use Rattle.lg_json.specs.declared.json.Json.TheOpen.{Json-F}
 use Rattle.lg_json.specs.declared.json.Json.TheVariants as variants
-use Rattle.lg_json.specs.declared.json.Json.TheViews.{the_lemmas}
 use Rattle.lg_json.specs.declared.json.Member.{Member}
 
 pub tree-null : tree variants.Null ≡ null

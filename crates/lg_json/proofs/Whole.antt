@@ -1,8 +1,8 @@
 -- The reading of a whole text.
-use Rattle.std.proofs.Common.{◌≡◌, ℕ, ◌+◌, ◌⊎◌, List, [], ◌∷◌, ◌++◌, length, Result, Ok, Err, refl, sym, ap, ◌∙◌, subst, inl, inr, append-nil}
+use Rattle.std.proofs.Common.{◌≡◌, ℕ, ◌+◌, List, [], ◌∷◌, ◌++◌, length, Result, Ok, Err, refl, sym, ap, ◌∙◌, append-nil}
 use Rattle.lg_json.specs.Tree.{Tree}
 use Rattle.lg_json.specs.Grammar.{IsBlank, IsJson, Fits}
-use Rattle.lg_json.specs.Reading.{State, at, complete, finish, reads, reading}
+use Rattle.lg_json.specs.Reading.{at, complete, finish, reads, reading}
 use Rattle.lg_json.specs.Reading.Mode.{before_value, ended}
 use Rattle.lg_json.specs.Fault.{EndsNumber}
 use Rattle.lg_json.specs.declared.json.JsonFault.{JsonFault}

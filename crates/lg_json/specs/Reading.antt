@@ -6,7 +6,7 @@ use Rattle.lg_containers.specs.Utf8.{utf8_step}
 use Rattle.lg_containers.specs.declared.utf8.Utf8State.{Utf8State}
 use Rattle.lg_containers.specs.declared.utf8.Utf8State.TheVariants.{Boundary, Inside}
 use Rattle.lg_json.specs.Tree.{Tree, Entry, trees, entries}
-use Rattle.lg_json.specs.Tree.Tree.{null, truth, whole, part, text, list, members}
+use Rattle.lg_json.specs.Tree.Tree.{null, truth, whole, text, list, members}
 use Rattle.lg_json.specs.Grammar.{signed}
 use Rattle.lg_json.specs.declared.json.JsonFault.{JsonFault}
 use Rattle.lg_json.specs.declared.json.JsonFault.TheVariants.{Syntax, NotWhole, TooWide, TooDeep, Repeated}

@@ -1,6 +1,6 @@
 -- What the reader's state and answers stand for.
 use Rattle.std.specs.Prelude.{◌≡◌, ℕ, List, Option, Some, None, map, Result, Ok, Err}
-use Rattle.lg_json.specs.Tree.{Tree, Entry, tree, entry}
+use Rattle.lg_json.specs.Tree.{Entry, tree, entry}
 use Rattle.lg_json.specs.declared.json.Member.{Member}
 use Rattle.lg_json.specs.Reading as machine
 use Rattle.lg_json.specs.declared.json.JsonFault.{JsonFault}

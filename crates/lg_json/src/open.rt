@@ -8,7 +8,7 @@ use crate::json::{Json, JsonFault, Member};
 use crate::stack::Stack;
 use crate::state::{Frame, Next, State};
 use lg_containers::Text;
-use sqlite_items::Items;
+use sqlite_items::{Boxed, Items};
 use std::alloc::{AllocError, Global};
 
 /// The most lists and objects that are open at once.
@@ -38,7 +38,7 @@ pub fn complete(alloc: Global, frames: Stack<Frame>, value: Json) -> Result<Stat
     let Some((top, frames)) = frames.split() else {
         return Ok(State {
             frames: Stack::new(alloc),
-            next: Next::End(value),
+            next: Next::End(Boxed::new(alloc, value)?),
         });
     };
     let frames = frames.with(with_value(top, value)?)?;

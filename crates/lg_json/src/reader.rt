@@ -56,7 +56,7 @@ fn finish(place: usize, state: State) -> Result<Json, JsonFault>
 {
     let State { frames: _, next } = state;
     match next {
-        Next::End(value) => Ok(value),
+        Next::End(value) => Ok(value.into_inner()),
         _ => Err(JsonFault::Syntax { place }),
     }
 }

@@ -45,6 +45,7 @@ impl<T> Stack<T> {
 
 impl<T: Drop> Stack<T> {
     /// The top, and what is below it.
+    #[inline(always)]
     pub fn split(self) -> Option<(T, Stack<T>)>
         ensures { MatchOption result (self ≡ []) (λ p. self ≡ p.0 ∷ p.1) }
     {
@@ -53,6 +54,7 @@ impl<T: Drop> Stack<T> {
         Some((top, Stack { from_bottom }))
     }
 
+    #[inline(always)]
     pub fn with(self, top: T) -> Result<Stack<T>, AllocError>
         ensures { IfOk result (λ s. s ≡ top ∷ self) }
     {

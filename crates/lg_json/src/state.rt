@@ -2,7 +2,7 @@ use crate::json::{Json, Member};
 use crate::stack::Stack;
 use lg_containers::Text;
 use lg_containers::utf8::Utf8State;
-use sqlite_items::Items;
+use sqlite_items::{Boxed, Items};
 
 /// A list or an object that is open.
 #[derive(Drop)]
@@ -42,7 +42,7 @@ pub enum Next {
     /// After an item of a list or a member of an object.
     Comma,
     /// Nothing: the whole value.
-    End(Json),
+    End(Boxed<Json>),
 }
 
 /// Where the reading stands: what is open, the innermost first, and what comes next.

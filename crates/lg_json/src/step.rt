@@ -19,6 +19,7 @@ use sqlite_items::Items;
 use std::alloc::Global;
 
 /// The state, where there is one, with the place after what was read.
+#[inline(always)]
 fn at_place(outcome: Result<State, JsonFault>, place: usize) -> Result<(State, usize), JsonFault>
     ensures { result ≡ placed outcome place }
 {
@@ -29,6 +30,7 @@ fn at_place(outcome: Result<State, JsonFault>, place: usize) -> Result<(State, u
 }
 
 /// A text that is a value, from its first quote on.
+#[inline(always)]
 fn begin_text(
     alloc: Global,
     bytes: &[u8],
@@ -44,6 +46,7 @@ fn begin_text(
 }
 
 /// A number from its first byte on.
+#[inline(always)]
 fn begin_number(
     alloc: Global,
     bytes: &[u8],
@@ -77,6 +80,7 @@ fn begin_word(
 }
 
 /// A list or an object that begins.
+#[inline(always)]
 fn begin_frame(
     bytes: &[u8],
     place: usize,
@@ -150,6 +154,7 @@ fn begin(
 }
 
 /// A name from its first quote on.
+#[inline(always)]
 fn begin_name(
     alloc: Global,
     bytes: &[u8],
@@ -164,6 +169,7 @@ fn begin_name(
 }
 
 /// A list's first item, or its end.
+#[inline(always)]
 fn step_first(
     alloc: Global,
     bytes: &[u8],
@@ -183,6 +189,7 @@ fn step_first(
 }
 
 /// An object's first name, or its end.
+#[inline(always)]
 fn step_first_name(
     alloc: Global,
     bytes: &[u8],
@@ -204,6 +211,7 @@ fn step_first_name(
 }
 
 /// A name after a comma.
+#[inline(always)]
 fn step_name(
     alloc: Global,
     bytes: &[u8],
@@ -221,6 +229,7 @@ fn step_name(
 }
 
 /// The colon after a name.
+#[inline(always)]
 fn step_colon(bytes: &[u8], place: usize, frames: Stack<Frame>) -> Result<(State, usize), JsonFault>
     requires within { place < length bytes.now }
     requires no_blank { machine.is_blank (slice_index bytes.now place) ≡ false }
@@ -234,6 +243,7 @@ fn step_colon(bytes: &[u8], place: usize, frames: Stack<Frame>) -> Result<(State
 }
 
 /// What follows an item or a member.
+#[inline(always)]
 fn step_comma(
     alloc: Global,
     bytes: &[u8],
@@ -248,6 +258,7 @@ fn step_comma(
 }
 
 /// The step at a byte that is no blank.
+#[inline(always)]
 fn step_at(
     alloc: Global,
     bytes: &[u8],
@@ -271,6 +282,7 @@ fn step_at(
 }
 
 /// The state after one step from `place` on, and the place after it.
+#[inline(always)]
 pub fn step(
     alloc: Global,
     bytes: &[u8],

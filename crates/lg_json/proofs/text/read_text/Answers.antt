@@ -1,4 +1,4 @@
-use Rattle.std.proofs.Common.{sym, refl, eq-eqb}
+use Rattle.std.proofs.Common.{refl, eq-eqb}
 use Rattle.lg_json.proofs.Tokens.{text_plain, text_utf8, text_ends}
 use Rattle.lg_json.proofs.text.read_text.Goals as goal
 
