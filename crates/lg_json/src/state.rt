@@ -2,7 +2,7 @@ use crate::json::{Json, Member};
 use crate::stack::Stack;
 use lg_containers::Text;
 use lg_containers::utf8::Utf8State;
-use sqlite_items::Items;
+use sqlite_items::{Boxed, Items};
 
 /// A list or an object that is open.
 #[derive(Drop)]
@@ -11,14 +11,6 @@ pub enum Frame {
     Object(Items<Member>),
     /// An object whose last name has its value still to come.
     Named(Items<Member>, Text),
-}
-
-/// What a text is read for.
-#[derive(Clone, Copy)]
-pub enum Role {
-    Value,
-    /// A member's name, with the place of its first quote.
-    Name(usize),
 }
 
 /// Where the reading of a text stands, between its quotes.
@@ -37,32 +29,25 @@ pub enum TextMode {
     Low(u16, u8, u16),
 }
 
-/// What comes next. Where a number is read, the last part is the place of its first byte.
+/// What comes next.
 #[derive(Drop)]
-pub enum Mode {
-    BeforeValue,
-    /// After `[`.
-    BeforeFirst,
-    /// After `{`.
-    BeforeFirstName,
-    BeforeName,
-    BeforeColon,
-    /// In a word: what is left of it, and its value.
-    InWord(&'static [u8], Json),
-    AfterMinus(usize),
-    AfterZero(bool, usize),
-    /// In a number: whether it is negative, and the value of the digits so far.
-    InDigits(bool, u128, usize),
-    InText(Role, Vec<u8>, TextMode),
-    /// After an item of the innermost list or a member of the innermost object.
-    AfterItem,
-    /// After the whole value.
-    Ended(Json),
+pub enum Next {
+    Value,
+    /// A list's first item, or its end.
+    First,
+    /// An object's first name, or its end.
+    FirstName,
+    Name,
+    Colon,
+    /// After an item of a list or a member of an object.
+    Comma,
+    /// Nothing: the whole value.
+    End(Boxed<Json>),
 }
 
 /// Where the reading stands: what is open, the innermost first, and what comes next.
 #[derive(Drop)]
 pub struct State {
     pub frames: Stack<Frame>,
-    pub mode: Mode,
+    pub next: Next,
 }
