@@ -1,2 +1,6 @@
 mod Totals
 mod Keeping
+mod Bits
+mod Touched
+mod Places
+mod Stages

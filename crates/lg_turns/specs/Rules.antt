@@ -121,3 +121,18 @@ OpensTo more v w = (w.0 ≡ begun more v.0) × (w.1 ≡ v.1)
 
 abbrev pub Opened : {S : Type 0} → List Marked → Step S → Me S View → ℕ → Me S View → Type 0
 Opened more s v found w = OpensTo more v w
+
+-- the seat that adds events, while no call adds any; and a seat of what lies under a lock
+abbrev pub IsPen : View → Type 0
+IsPen v = (v.pen ≡ true) × (v.weight ≡ 0) × (v.made ≡ 0)
+
+abbrev pub IsIdle : View → Type 0
+IsIdle v = (v.pen ≡ false) × (v.weight ≡ 0) × (v.made ≡ 0)
+
+-- a seat has seen all that the seat that adds events has seen, and is as before in the rest
+pub record CaughtUp (v w : View) (all : List Marked) : Type 0 where
+  pub had : IsPrefix v.seen all
+  pub seen : w.seen ≡ all
+  pub weight : w.weight ≡ v.weight
+  pub made : w.made ≡ v.made
+  pub pen : w.pen ≡ false

@@ -1,7 +1,7 @@
 //! The counting word, whose steps tell what the seats know.
 ghost use Rattle.std.specs.Prelude.{◌≡◌, ◌+◌, ◌^◌, ◌<◌, ◌≤◌, true, false, [], ◌∷◌, ◌++◌, length, IfOk};
 ghost use Rattle.lg_types.specs.Marked.{open_end};
-ghost use Rattle.lg_turns.specs.Rules.{Shown, opener, nobody, lighter, sharer, penless, pen_of, joined, grown, begun};
+ghost use Rattle.lg_turns.specs.Rules.{Shown, opener, nobody, lighter, sharer, penless, pen_of, joined, grown, begun, IsPen, CaughtUp};
 
 use crate::rule::{Added, Both, Idle, Law, Look, Open, PenOff, Raise, Share, View, Whole};
 use atomic_table::{Seat, Table};
@@ -150,4 +150,25 @@ impl<N: Name> Word<N> {
     {
         self.table.shared.join_seat::<Both>(seat, other);
     }
+}
+
+/// Brings a seat up to what the seat that adds events has seen, and gives the number of all events.
+pub(crate) fn catch_up<N: Name>(word: &Word<N>, seat: &mut Token, pen: &mut Token) -> u64
+    requires table { (seat.old.table_id ≡ N.table) × (pen.old.table_id ≡ N.table) }
+    requires pen { IsPen pen.old.me.0 }
+    requires seat { seat.old.me.0.pen ≡ false }
+    ensures table { (seat.new.table_id ≡ N.table) × (pen.new.table_id ≡ N.table) }
+    ensures slots { (seat.new.me.1 ≡ seat.old.me.1) × (pen.new.me.1 ≡ pen.old.me.1) }
+    ensures seat { CaughtUp seat.old.me.0 seat.new.me.0 pen.old.me.0.seen }
+    ensures pen { IsPen pen.new.me.0 }
+    ensures all { pen.new.me.0.seen ≡ pen.old.me.0.seen }
+    ensures ends { open_end pen.old.me.0.seen ≡ 0 }
+    ensures count { result ≡ length pen.old.me.0.seen }
+{
+    let whole = word.whole(pen);
+    word.join(seat, whole);
+    let count = word.look(seat);
+    let off = word.pen_off(seat);
+    word.join(pen, off);
+    count
 }
