@@ -34,6 +34,47 @@ impl<T> Model for Sixteen<T> {
 }
 
 impl<T> Sixteen<T> {
+    /// A row of sixteen values.
+    pub fn of(
+        at_0: T,
+        at_1: T,
+        at_2: T,
+        at_3: T,
+        at_4: T,
+        at_5: T,
+        at_6: T,
+        at_7: T,
+        at_8: T,
+        at_9: T,
+        at_10: T,
+        at_11: T,
+        at_12: T,
+        at_13: T,
+        at_14: T,
+        at_15: T,
+    ) -> Sixteen<T>
+        ensures { result ≡ at_0 ∷ at_1 ∷ at_2 ∷ at_3 ∷ at_4 ∷ at_5 ∷ at_6 ∷ at_7 ∷ at_8 ∷ at_9 ∷ at_10 ∷ at_11 ∷ at_12 ∷ at_13 ∷ at_14 ∷ at_15 ∷ [] }
+    {
+        Sixteen {
+            at_0,
+            at_1,
+            at_2,
+            at_3,
+            at_4,
+            at_5,
+            at_6,
+            at_7,
+            at_8,
+            at_9,
+            at_10,
+            at_11,
+            at_12,
+            at_13,
+            at_14,
+            at_15,
+        }
+    }
+
     pub fn len(&self) -> usize
         ensures { (result ≡ 16) × (length self.now ≡ 16) }
     {

@@ -134,9 +134,9 @@ joins id v other w s k e apart e' =
       log = k.log;
       word = k.word;
       fits = λ seat x q. ⊎_elim
-        (λ t. subst (λ y. Fits k.log y) t.1 (fits-nobody k.log))
-        (λ t. ⊎_elim (λ u. subst (λ y. Fits k.log y) u.1 (fits-joined k.log v w h h')) (λ u. k.fits seat x u.1) (at_set s.views id seat (joined v w) x t.1))
-        (at_set (set s.views id (joined v w)) other seat nobody x q);
+          (λ t. subst (λ y. Fits k.log y) t.1 (fits-nobody k.log))
+          (λ t. ⊎_elim (λ u. subst (λ y. Fits k.log y) u.1 (fits-joined k.log v w h h')) (λ u. k.fits seat x u.1) (at_set s.views id seat (joined v w) x t.1))
+          (at_set (set s.views id (joined v w)) other seat nobody x q);
       pens = sums pens_of (let le : pens_of v + pens_of w ≤ total pens_of s.views = total_two pens_of s.views id other v w e there apart in joined_pens v w (omega (arith, k.pens))) refl k.pens;
       weights = sums weight_of refl refl k.weights;
       made = sums made_of refl refl k.made;
@@ -162,15 +162,19 @@ loads slots id me s k len e small =
         weights = ap (total weight_of) (set_again s.views id me.0 e) ∙ k.weights;
         made = ap (total made_of) (set_again s.views id me.0 e) ∙ k.made;
       },
-      (refl, refl, record {
-        one = h.one;
-        other = h.other;
-        ends = h.ends;
-        within = omega (arith, found, within);
-        all = λ p. ap length (h.all p) ∙ sym found;
-        light = let le : me.0.weight ≤ total weight_of s.views = total_one weight_of s.views id me.0 e in omega (arith, le, k.weights);
-        gathered = λ full. let all : total made_of s.views ≡ me.0.made = total_all weight_of made_of s.views (λ i a q. (k.fits i a q).idle) id me.0 e (full ∙ sym k.weights) in omega (arith, all, k.made, found);
-      }),
+      (
+        refl,
+        refl,
+        record {
+          one = h.one;
+          other = h.other;
+          ends = h.ends;
+          within = omega (arith, found, within);
+          all = λ p. ap length (h.all p) ∙ sym found;
+          light = let le : me.0.weight ≤ total weight_of s.views = total_one weight_of s.views id me.0 e in omega (arith, le, k.weights);
+          gathered = λ full. let all : total made_of s.views ≡ me.0.made = total_all weight_of made_of s.views (λ i a q. (k.fits i a q).idle) id me.0 e (full ∙ sym k.weights) in omega (arith, all, k.made, found);
+        },
+      ),
     )
 
 -- what others have seen is a prefix of what is added to, and only one seat adds
@@ -214,9 +218,9 @@ raises slots id me more count pen heavy begun is ends room s k len e small =
         log = k.log ++ more;
         word = subst (λ (ws : List ℕ). set ws 0 ((get_or ws 0 0 + count) % 2 ^ 64) ≡ length (k.log ++ more) ∷ []) (sym k.word) (ap (λ (n : ℕ). n ∷ []) rest);
         fits = λ seat w q. ⊎_elim
-          (λ t. subst (λ y. Fits (k.log ++ more) y) t.1 mine)
-          (λ t. others_fit k.log more me.0 w (k.fits seat w t.1) one (let le : pens_of me.0 + pens_of w ≤ total pens_of s.views = total_two pens_of s.views id seat me.0 w e t.1 t.0 in omega (arith, le, k.pens)))
-          (at_set s.views id seat (grown more me.0) w q);
+            (λ t. subst (λ y. Fits (k.log ++ more) y) t.1 mine)
+            (λ t. others_fit k.log more me.0 w (k.fits seat w t.1) one (let le : pens_of me.0 + pens_of w ≤ total pens_of s.views = total_two pens_of s.views id seat me.0 w e t.1 t.0 in omega (arith, le, k.pens)))
+            (at_set s.views id seat (grown more me.0) w q);
         pens = omega (arith, total_set pens_of s.views id me.0 (grown more me.0) e, k.pens);
         weights = omega (arith, total_set weight_of s.views id me.0 (grown more me.0) e, k.weights);
         made = omega (arith, total_set made_of s.views id me.0 (grown more me.0) e, k.made, sum, size, begun);
@@ -251,9 +255,9 @@ opens slots id me more pen none is ends s k len e small =
         log = more;
         word = subst (λ (ws : List ℕ). set ws 0 ((get_or ws 0 0 + 1) % 2 ^ 64) ≡ length more ∷ []) (sym k.word) (ap (λ (n : ℕ). n ∷ []) rest);
         fits = λ seat w q. ⊎_elim
-          (λ t. subst (λ y. Fits more y) t.1 mine)
-          (λ t. subst (λ (xs : List Marked). Fits xs w) grows (others_fit k.log more me.0 w (k.fits seat w t.1) one (let le : pens_of me.0 + pens_of w ≤ total pens_of s.views = total_two pens_of s.views id seat me.0 w e t.1 t.0 in omega (arith, le, k.pens))))
-          (at_set s.views id seat (begun more me.0) w q);
+            (λ t. subst (λ y. Fits more y) t.1 mine)
+            (λ t. subst (λ (xs : List Marked). Fits xs w) grows (others_fit k.log more me.0 w (k.fits seat w t.1) one (let le : pens_of me.0 + pens_of w ≤ total pens_of s.views = total_two pens_of s.views id seat me.0 w e t.1 t.0 in omega (arith, le, k.pens))))
+            (at_set s.views id seat (begun more me.0) w q);
         pens = omega (arith, total_set pens_of s.views id me.0 (begun more me.0) e, k.pens);
         weights = omega (arith, total_set weight_of s.views id me.0 (begun more me.0) e, k.weights);
         made = omega (arith, total_set made_of s.views id me.0 (begun more me.0) e, k.made, size, is);

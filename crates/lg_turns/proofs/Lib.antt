@@ -1,6 +1,8 @@
-mod Totals
-mod Keeping
-mod Bits
-mod Touched
-mod Places
-mod Stages
+pub mod Totals
+pub mod Keeping
+pub mod Bits
+pub mod Touched
+pub mod Places
+pub mod Stages
+pub mod Joined
+pub mod Fronts

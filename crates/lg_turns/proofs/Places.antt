@@ -24,14 +24,14 @@ module _ {A : Type 0} where
   -- the place was empty, or is emptied
   pub held-none : (xs : List (Option A)) (i : ℕ) (F G : ℕ → A → Type 0) → AllHeld xs F → ((k : ℕ) (a : A) → k ≢ i → F k a → G k a) → AllHeld (set xs i None) G
   held-none xs i F G h step k a e = dite (ℕ_discrete k i)
-    (λ same. absurd (let q : None ≡ Some a = held_here xs i None (Some a) (subst (λ j. slice_get (set xs i None) j ≡ Some (Some a)) same e) in cc))
-    (λ other. step k a other (h k a (sym (held_else xs i k None other) ∙ e)))
+      (λ same. absurd (let q : None ≡ Some a = held_here xs i None (Some a) (subst (λ j. slice_get (set xs i None) j ≡ Some (Some a)) same e) in cc))
+      (λ other. step k a other (h k a (sym (held_else xs i k None other) ∙ e)))
 
   -- the place is filled anew
   pub held-put : (xs : List (Option A)) (i : ℕ) (a : A) (F G : ℕ → A → Type 0) → AllHeld xs F → ((k : ℕ) (b : A) → k ≢ i → F k b → G k b) → G i a → AllHeld (set (set xs i None) i (Some a)) G
   held-put xs i a F G h step here k b e = dite (ℕ_discrete k i)
-    (λ same. let q : Some a ≡ Some b = held_here (set xs i None) i (Some a) (Some b) (subst (λ j. slice_get (set (set xs i None) i (Some a)) j ≡ Some (Some b)) same e) in subst (λ j. G j b) (sym same) (subst (λ x. G i x) (some_some a b q) here))
-    (λ other. step k b other (h k b (sym (held_else xs i k None other) ∙ (sym (held_else (set xs i None) i k (Some a) other) ∙ e))))
+      (λ same. let q : Some a ≡ Some b = held_here (set xs i None) i (Some a) (Some b) (subst (λ j. slice_get (set (set xs i None) i (Some a)) j ≡ Some (Some b)) same e) in subst (λ j. G j b) (sym same) (subst (λ x. G i x) (some_some a b q) here))
+      (λ other. step k b other (h k b (sym (held_else xs i k None other) ∙ (sym (held_else (set xs i None) i k (Some a) other) ∙ e))))
 
   pub within : (xs : List (Option A)) (k : ℕ) (a : A) → slice_get xs k ≡ Some (Some a) → k < length xs
   within [] k a e = absurd (let q : None ≡ Some (Some a) = e in cc)

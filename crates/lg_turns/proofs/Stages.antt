@@ -102,14 +102,14 @@ module _ {log : List Marked} {k stripe known : ℕ} {prepared : Bool} {shares : 
 
   pub staged-skip : {lo i : ℕ} {touched : ℕ → Bool} {on : Type 0} → touched i ≡ false → Staged lo i touched log k stripe known prepared shares on → Staged lo (i + 1) touched log k stripe known prepared shares on
   staged-skip {lo = lo} {i = i} {touched = touched} none h = dite (ℕ_discrete k i)
-    (λ same. let none' : touched k ≡ false = ap touched same ∙ none in record {
-      stripe_is = h.stripe_is;
-      known_fits = h.known_fits;
-      shares_is = h.shares_is;
-      flag = h.flag ∙ window-none lo i k (touched k) none' ∙ sym (window-none lo (i + 1) k (touched k) none');
-      ready = λ a b t. absurd (let q : true ≡ false = sym t ∙ none' in cc);
-    })
-    (λ n. staged-more n refl (λ o. o) h)
+      (λ same. let none' : touched k ≡ false = ap touched same ∙ none in record {
+        stripe_is = h.stripe_is;
+        known_fits = h.known_fits;
+        shares_is = h.shares_is;
+        flag = h.flag ∙ window-none lo i k (touched k) none' ∙ sym (window-none lo (i + 1) k (touched k) none');
+        ready = λ a b t. absurd (let q : true ≡ false = sym t ∙ none' in cc);
+      })
+      (λ n. staged-more n refl (λ o. o) h)
 
   pub staged-new : {touched : ℕ → Bool} {on : Type 0} → stripe ≡ k → known ≤ length log → shares ≡ part_of k (events_of log) → prepared ≡ true → touched k ≡ true → on → Staged 0 (k + 1) touched log k stripe known prepared shares on
   staged-new {touched = touched} s n e p t o = record {
@@ -152,14 +152,14 @@ module _ {log : List Marked} {k stripe known : ℕ} {prepared : Bool} {shares : 
 
   pub forgotten-skip : {i hi : ℕ} {touched : ℕ → Bool} {on : Type 0} → touched i ≡ false → Staged i hi touched log k stripe known prepared shares on → Staged (i + 1) hi touched log k stripe known prepared shares on
   forgotten-skip {i = i} {hi = hi} {touched = touched} none h = dite (ℕ_discrete k i)
-    (λ same. let none' : touched k ≡ false = ap touched same ∙ none in record {
-      stripe_is = h.stripe_is;
-      known_fits = h.known_fits;
-      shares_is = h.shares_is;
-      flag = h.flag ∙ window-none i hi k (touched k) none' ∙ sym (window-none (i + 1) hi k (touched k) none');
-      ready = λ a b t. absurd (let q : true ≡ false = sym t ∙ none' in cc);
-    })
-    (λ n. forgotten-else n h)
+      (λ same. let none' : touched k ≡ false = ap touched same ∙ none in record {
+        stripe_is = h.stripe_is;
+        known_fits = h.known_fits;
+        shares_is = h.shares_is;
+        flag = h.flag ∙ window-none i hi k (touched k) none' ∙ sym (window-none (i + 1) hi k (touched k) none');
+        ready = λ a b t. absurd (let q : true ≡ false = sym t ∙ none' in cc);
+      })
+      (λ n. forgotten-else n h)
 
   pub forgotten-done : {lo hi : ℕ} {touched : ℕ → Bool} {on : Type 0} → hi ≤ lo → Staged lo hi touched log k stripe known prepared shares on → Stripe false log k stripe known prepared shares
   forgotten-done {lo = lo} {hi = hi} {touched = touched} le h = record {
@@ -206,7 +206,7 @@ module _ {k stripe known : ℕ} {prepared : Bool} {shares : List Share} {touched
 
   pub applying-skip : {i : ℕ} → touched i ≡ false → untouched i added ≡ true → Applying i touched events added k stripe known prepared shares on → Applying (i + 1) touched events added k stripe known prepared shares on
   applying-skip {i = i} none quiet h = dite (ℕ_discrete k i)
-    (λ same.
+      (λ same.
       let le : i ≤ k = omega arith in
       let n : known ≤ length events = h.known_fits le in
       let m : length (events ++ added) ≡ length events + length added = length-append events added in
@@ -219,7 +219,7 @@ module _ {k stripe known : ℕ} {prepared : Bool} {shares : List Share} {touched
         flag = λ l. absurd (omega arith);
         ready = λ l. absurd (omega arith);
       })
-    (λ n. applying-else n h)
+      (λ n. applying-else n h)
 
 -- before its turn comes a stripe has nothing prepared on it
 pub staged-clean : {lo k : ℕ} {touched : ℕ → Bool} {log : List Marked} {stripe known : ℕ} {prepared : Bool} {shares : List Share} {on : Type 0} → Staged lo k touched log k stripe known prepared shares on → prepared ≡ false

@@ -16,7 +16,7 @@ second : (a b : Bool) → (a && b) ≡ true → b ≡ true
 second true b h = h
 second false b h = absurd (let f : false ≡ true = h in cc)
 
-quiet-drop : (s n : ℕ) (events : List Event) → untouched s events ≡ true → untouched s (drop n events) ≡ true
+pub quiet-drop : (s n : ℕ) (events : List Event) → untouched s events ≡ true → untouched s (drop n events) ≡ true
 quiet-drop s zero events h = h
 quiet-drop s (suc n) [] h = h
 quiet-drop s (suc n) (event ∷ events) h = quiet-drop s n events (second (leaves s event) (untouched s events) h)

@@ -60,7 +60,11 @@ fn prepare_desk<P: Part, J: Journal, N: Name, C: Change<P, J>>(
     ensures prepared { MatchResult result (λ _. C.on_journal change.new desk.new.journal) (λ _. desk.new.prepared ≡ false) }
     ensures room { IfOk result (λ _. length (J.events desk.new.journal) + length (C.added change.new) < 2 ^ 64) }
 {
-    let Desk { journal, prepared, .. } = desk;
+    let Desk {
+        journal,
+        prepared,
+        ..
+    } = desk;
     match change.prepare_journal(journal) {
         Ok(()) => {
             *prepared = true;

@@ -34,9 +34,9 @@ invariant_of-desk g c =
     let size : length c.apply_row.new.pen.me.0.seen ≡ length old + length (marks mark added) = ap (length {A = Marked}) seen ∙ length-append old (marks mark added) in
     let grows : events_of (old ++ marks mark added) ≡ events ++ added = grown_events old mark added events d.list in
     let front : length (events ++ added) ≤ c.publish_word-front.result =
-        let a : length (events ++ added) ≡ length (old ++ marks mark added) = ap (length {A = Event}) (sym grows) ∙ events_length (old ++ marks mark added) in
-        let b : c.publish_word-front.result ≡ length (old ++ marks mark added) = word.front ∙ ap (length {A = Marked}) word.all in
-        omega (arith, a, b) in
+    let a : length (events ++ added) ≡ length (old ++ marks mark added) = ap (length {A = Event}) (sym grows) ∙ events_length (old ++ marks mark added) in
+    let b : c.publish_word-front.result ≡ length (old ++ marks mark added) = word.front ∙ ap (length {A = Marked}) word.all in
+    omega (arith, a, b) in
     record {
       named = c.apply_row.ensures.table;
       empty = c.apply_row.ensures.slots ∙ (word.slots.1 ∙ d.empty);
@@ -45,11 +45,11 @@ invariant_of-desk g c =
       ends = ap open_end c.apply_row.ensures.seen ∙ word.ends;
       list = c.apply_journal.ensures.events ∙ sym (ap events_of seen ∙ grows);
       stamped = λ k lt.
-        let stamp = slice_index d.stamps k in
-        let good : untouched k (drop (cond (has c.touches-set.result k) c.publish_word-front.result stamp) (events ++ added)) ≡ true =
-            stamped-by (has c.touches-set.result k) k c.publish_word-front.result stamp events added front (d.stamped k lt) (λ none. c.touches-set.ensures.all k lt (sym (c.touches-set.ensures.is k lt) ∙ none)) in
-        subst (λ n. untouched k (drop n (g.J.Journal.events c.apply_journal.new.journal)) ≡ true) (sym (c.stamp_all.ensures k lt))
-        (subst (λ (es : List Event). untouched k (drop (cond (has c.touches-set.result k) c.publish_word-front.result stamp) es) ≡ true) (sym c.apply_journal.ensures.events) good);
+          let stamp = slice_index d.stamps k in
+          let good : untouched k (drop (cond (has c.touches-set.result k) c.publish_word-front.result stamp) (events ++ added)) ≡ true =
+          stamped-by (has c.touches-set.result k) k c.publish_word-front.result stamp events added front (d.stamped k lt) (λ none. c.touches-set.ensures.all k lt (sym (c.touches-set.ensures.is k lt) ∙ none)) in
+          subst (λ n. untouched k (drop n (g.J.Journal.events c.apply_journal.new.journal)) ≡ true) (sym (c.stamp_all.ensures k lt))
+          (subst (λ (es : List Event). untouched k (drop (cond (has c.touches-set.result k) c.publish_word-front.result stamp) es) ≡ true) (sym c.apply_journal.ensures.events) good);
       clean = λ _. c.apply_journal.ensures.clean;
     }
 

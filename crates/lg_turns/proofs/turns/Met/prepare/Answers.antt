@@ -23,13 +23,15 @@ returns-in-Ok-clause-shares g c = all-mapped _ _ _ _ c.in-Ok.ensures.row (λ k a
 pub returns-in-Ok-clause-done : goal.returns-in-Ok-clause-done
 returns-in-Ok-clause-done g c =
     let held = held-within _ _ c.in-Ok.ensures.row in
-    let places : length c.prepare_all.new.row ≡ 16 = c.in-Ok.ensures.length in
-    (refl, record {
-      parts = all-mapped _ _ _ _ held (λ k a h t. h.1.ready (omega arith) (omega (arith, h.0, places)) t);
-      flags = all-mapped _ _ _ _ held (λ k a h. staged-flag (omega (arith, h.0, places)) h.1);
-      the_journal = c.in-Ok.ensures.journal.0;
-      room = c.in-Ok.ensures.journal.1;
-    })
+    let places : length c.prepare_all.new.row ≡ 16 = c.in-Ok.ensures.length in (
+      refl,
+      record {
+        parts = all-mapped _ _ _ _ held (λ k a h t. h.1.ready (omega arith) (omega (arith, h.0, places)) t);
+        flags = all-mapped _ _ _ _ held (λ k a h. staged-flag (omega (arith, h.0, places)) h.1);
+        the_journal = c.in-Ok.ensures.journal.0;
+        room = c.in-Ok.ensures.journal.1;
+      },
+    )
 
 pub returns-in-Err-clause-shares : goal.returns-in-Err-clause-shares
 returns-in-Err-clause-shares g c = all-mapped _ _ _ _ c.in-Err.ensures.row (λ k a h. h.shares_is ∙ ap (λ (ms : List Marked). part_of k (events_of ms)) (sym c.prepare_all.ensures.desk.1))
