@@ -1,0 +1,42 @@
+//! A ledger for accounts: reads a script of requests, and writes a reply for each and all events.
+#![tactic(auto)]
+
+mod adapters;
+mod errors;
+mod limits;
+mod program;
+#[cfg(test)]
+mod tests;
+mod words;
+
+use adapters::{ReadSource, WriteSink};
+use lg_base::Status;
+use program::top;
+use std::alloc::AllocError;
+use std::env;
+use std::process::ExitCode;
+
+/// The words of the command line without the program's name; none where they can't be had.
+fn words_of(rt: &HostRuntime) -> Result<Vec<String>, AllocError> {
+    let mut words = Vec::new(rt.alloc());
+    if let Ok(args) = env::args(rt) {
+        for word in args.skip(1) {
+            words.push(word)?;
+        }
+    }
+    Ok(words)
+}
+
+fn main(rt: HostRuntime) -> ExitCode {
+    let status = match words_of(&rt) {
+        Ok(words) => top(
+            rt.alloc(),
+            words.as_slice(),
+            &mut ReadSource::new(rt.stdin()),
+            &mut WriteSink::new(rt.stdout()),
+            &mut WriteSink::new(rt.stderr()),
+        ),
+        Err(AllocError) => Status::Memory,
+    };
+    ExitCode::from(status as u8)
+}
