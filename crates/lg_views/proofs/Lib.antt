@@ -10,3 +10,4 @@ pub mod Refused
 pub mod Tests
 pub mod Walks
 pub mod Within
+pub mod FirstViews
