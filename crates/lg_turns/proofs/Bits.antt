@@ -1,10 +1,9 @@
 -- The bits of a set of stripes.
 use Rattle.std.specs.Prelude.{nat_eq, nat_lt}
-use Rattle.std.proofs.Common.{◌≡◌, ℕ, ◌*◌, ◌%◌, ◌^◌, ◌<◌, ◌≢◌, ◌≤◌, Bool, true, false, ◌&&◌, ◌||◌, bit_or, refl, sym, ap, ◌∙◌, arith, w16}
+use Rattle.std.proofs.Common.{◌≡◌, ℕ, ◌*◌, ◌%◌, ◌^◌, ◌<◌, ◌≢◌, Bool, true, false, ◌&&◌, ◌||◌, bit_or, refl, ap, ◌∙◌, arith, w16}
 use Rattle.std.proofs.lemmas.Bool.Decides.{nat_tests}
 use Rattle.std.proofs.lemmas.Nat.Bits.{bit_at_set_same, bit_at_set_other, bit_at_ones}
 use Rattle.std.specs.Int.{bit_at}
-use Rattle.lg_turns.specs.declared.stripes.StripeSet.{StripeSet}
 use Rattle.lg_turns.specs.Stripes.{has}
 
 all_by : (k : ℕ) (b : Bool) → nat_lt k 16 ≡ b → (b && nat_eq (bit_at 65535 k) 1) ≡ b

@@ -1,7 +1,6 @@
 -- What is known of two seats that became one.
 use Rattle.std.specs.Prelude.{nat_le}
-use Rattle.std.proofs.Common.{◌≡◌, ◌⊎◌, Bool, true, false, ◌||◌, cond, List, length, refl, ap, ◌∙◌, inl, inr}
-use Rattle.lg_types.specs.declared.marks.Marked.{Marked}
+use Rattle.std.proofs.Common.{◌≡◌, ◌⊎◌, Bool, true, false, ◌||◌, cond, length, refl, ap, ◌∙◌, inl, inr}
 use Rattle.lg_turns.specs.declared.rule.View.{View}
 use Rattle.lg_turns.specs.Rules.{joined, longer}
 

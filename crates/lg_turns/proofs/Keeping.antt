@@ -1,18 +1,18 @@
 -- Each kind of step on the counting word keeps its rule.
 use Rattle.std.specs.Prelude.{nat_le}
-use Rattle.std.proofs.Common.{◌≡◌, ℕ, ◌+◌, ◌-◌, ◌%◌, ◌^◌, ◌<◌, ◌≤◌, ◌≢◌, ◌⊎◌, Bool, true, false, ◌||◌, cond, List, [], ◌∷◌, ◌++◌, length, get_or, set, refl, sym, ap, subst, ◌∙◌, inl, inr, ⊎_elim, length-append, arith}
+use Rattle.std.proofs.Common.{◌≡◌, ℕ, ◌+◌, ◌%◌, ◌^◌, ◌<◌, ◌≤◌, Bool, true, false, ◌||◌, cond, List, [], ◌∷◌, ◌++◌, length, get_or, set, refl, sym, ap, subst, ◌∙◌, ⊎_elim, length-append, arith}
 use Rattle.std.proofs.Math.Nat.{mod-eq_of_lt}
 use Rattle.std.proofs.lemmas.Bool.Decides.{nat_tests}
 use mathlib.Core.Option.{some, some-injective, some-ne-none}
 use lib.ListN.{get_elem?}
-use Rattle.atomic_table.specs.Table.{State, Me, keeps, step, Allows, Splits, Joins}
+use Rattle.atomic_table.specs.Table.{Me, keeps, step, Allows, Splits, Joins}
 use Rattle.atomic_table.proofs.Lists.{at_set, at_snoc, set_else, set_again}
 use Rattle.lg_types.specs.declared.marks.Marked.{Marked}
 use Rattle.lg_types.specs.Lists.{IsPrefix}
 use Rattle.lg_types.specs.Marked.{open_end}
-use Rattle.lg_types.proofs.Prefixes.{prefix-self, prefix-more, prefix-trans, prefix-length, prefix-whole}
+use Rattle.lg_types.proofs.Prefixes.{prefix-self, prefix-more, prefix-trans, prefix-length}
 use Rattle.lg_turns.specs.declared.rule.View.{View}
-use Rattle.lg_turns.specs.Rules.{total, weight_of, made_of, pens_of, Fits, Kept, opener, nobody, lighter, sharer, penless, pen_of, longer, joined, Shown, Looked, LooksOf, Raised, RaisesTo, grown, Opened, OpensTo, begun}
+use Rattle.lg_turns.specs.Rules.{total, weight_of, made_of, pens_of, Fits, Kept, nobody, lighter, sharer, penless, pen_of, longer, joined, Looked, Raised, grown, Opened, begun}
 use Rattle.lg_turns.proofs.Totals.{total_set, total_snoc, total_one, total_two, total_all}
 
 pub fits-nobody : (log : List Marked) → Fits log nobody

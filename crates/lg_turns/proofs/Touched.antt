@@ -1,5 +1,5 @@
 -- The part of a stripe that no later event touches.
-use Rattle.std.proofs.Common.{◌≡◌, ℕ, zero, suc, ◌+◌, ◌≤◌, Bool, true, false, not, cond, ◌&&◌, List, [], ◌∷◌, ◌++◌, length, drop, refl, sym, ap, ◌∙◌, arith}
+use Rattle.std.proofs.Common.{◌≡◌, ℕ, zero, suc, ◌≤◌, Bool, true, false, cond, ◌&&◌, List, [], ◌∷◌, ◌++◌, length, drop, refl, sym, ap, ◌∙◌, arith}
 use Rattle.lg_types.specs.declared.marks.Marked.{Marked}
 use Rattle.lg_types.specs.Lists.{IsPrefix}
 use Rattle.lg_types.specs.declared.marks.Mark.{Mark}

@@ -1,5 +1,5 @@
 -- What callers see: passes, and what lies under the locks that a caller holds.
-use Rattle.std.specs.Prelude.{◌≡◌, ℕ, ◌+◌, ◌^◌, ◌<◌, Bool, true, List, Option, length}
+use Rattle.std.specs.Prelude.{◌≡◌, ℕ, ◌+◌, ◌^◌, ◌<◌, Bool, true, List, Option}
 use Rattle.atomic_table.specs.Seated.{TableId}
 use Rattle.lg_types.specs.declared.marks.Marked.{Marked}
 use Rattle.lg_turns.specs.Rows.{AllHeld}

@@ -1,4 +1,4 @@
-use Rattle.std.proofs.Common.{◌≡◌, ◌+◌, ◌-◌, ◌^◌, List, length, sym, ap, subst, ◌∙◌, arith}
+use Rattle.std.proofs.Common.{◌≡◌, ◌+◌, ◌-◌, List, length, sym, ap, subst, ◌∙◌, arith}
 use Rattle.lg_types.specs.declared.records.Event.{Event}
 use Rattle.lg_types.specs.declared.marks.Marked.{Marked}
 use Rattle.lg_types.specs.Lists.{IsPrefix}

@@ -1,6 +1,5 @@
 use Rattle.std.specs.Prelude.{slice_get}
-use Rattle.std.specs.Sync.Mutex.{mutex_guard_value}
-use Rattle.std.proofs.Common.{◌≡◌, ◌<◌, ◌≤◌, true, false, length, sym, ap, subst, ◌∙◌, arith}
+use Rattle.std.proofs.Common.{◌≡◌, true, false, sym, ap, subst, ◌∙◌, arith}
 use Rattle.lg_turns.proofs.Places.{held-more, held-none, held-put}
 use Rattle.lg_turns.proofs.Stages.{forgotten-skip, forgotten-else, forgotten-here}
 use Rattle.lg_turns.proofs.prepare.forget_at.Goals as goal

@@ -1,6 +1,5 @@
 use Rattle.std.specs.Prelude.{slice_get}
-use Rattle.std.specs.Sync.Mutex.{mutex_guard_value}
-use Rattle.std.proofs.Common.{◌≡◌, ◌<◌, ◌≤◌, true, false, length, refl, sym, ap, ◌∙◌, arith}
+use Rattle.std.proofs.Common.{◌≡◌, ◌≤◌, true, false, length, refl, sym, ap, ◌∙◌, arith}
 use Rattle.lg_types.specs.Marked.{events_of}
 use Rattle.lg_types.specs.Parts.{part_of}
 use Rattle.lg_turns.proofs.Places.{held-more, held-none, held-put}

@@ -1,4 +1,4 @@
-use Rattle.std.proofs.Common.{◌≡◌, ◌<◌, length, arith}
+use Rattle.std.proofs.Common.{◌≡◌, length, arith}
 use Rattle.lg_turns.proofs.Places.{held-more}
 use Rattle.lg_turns.proofs.publish.apply_row.Goals as goal
 

@@ -1,4 +1,4 @@
-use Rattle.std.proofs.Common.{length, ap, arith}
+use Rattle.std.proofs.Common.{ap, arith}
 use Rattle.lg_types.proofs.MarkedLists.{marks_length}
 use Rattle.lg_turns.proofs.publish.publish_word.Goals as goal
 

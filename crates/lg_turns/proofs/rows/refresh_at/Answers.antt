@@ -1,9 +1,5 @@
 use Rattle.std.specs.Sync.Mutex.{mutex_guard_value}
-use Rattle.std.specs.Prelude.{slice_index}
-use Rattle.std.proofs.Common.{◌≡◌, ◌≤◌, true, Some, List, drop, refl, sym, ap, subst, ◌∙◌, arith}
-use Rattle.lg_types.specs.Marked.{events_of}
-use Rattle.lg_types.specs.Parts.{untouched}
-use Rattle.lg_turns.specs.Rows.{Ready}
+use Rattle.std.proofs.Common.{◌≡◌, Some, ap, ◌∙◌, arith}
 use Rattle.lg_turns.proofs.Places.{held-none, held-put, mapped-none, mapped-put}
 use Rattle.lg_turns.proofs.Stages.{refreshing-else, refreshing-here}
 use Rattle.lg_turns.proofs.rows.refresh_at.Goals as goal

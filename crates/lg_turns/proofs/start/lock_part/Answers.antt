@@ -1,5 +1,4 @@
-use Rattle.std.proofs.Common.{◌≡◌, true, List, [], length, sym, ap, subst, ◌∙◌}
-use Rattle.lg_types.specs.declared.marks.Marked.{Marked}
+use Rattle.std.proofs.Common.{◌≡◌, true, [], length, sym, ap, subst, ◌∙◌}
 use Rattle.lg_types.specs.Lists.{Each}
 use Rattle.lg_types.specs.Marked.{events_of}
 use Rattle.lg_types.specs.Parts.{part_of}

@@ -1,5 +1,5 @@
 use Rattle.std.specs.Sync.Mutex.{mutex_guard_value}
-use Rattle.std.proofs.Common.{◌≡◌, ◌<◌, ◌++◌, List, true, false, length, sym, ap, subst, ◌∙◌, arith}
+use Rattle.std.proofs.Common.{◌≡◌, true, sym, ap, subst, ◌∙◌, arith}
 use Rattle.lg_types.specs.Marked.{events_of}
 use Rattle.lg_types.specs.Parts.{part_of}
 use Rattle.lg_turns.specs.Rows.{AllHeld}
