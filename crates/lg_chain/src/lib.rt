@@ -5,7 +5,7 @@ mod hash_feed;
 mod sealing;
 
 pub use hash_feed::HashFeed;
-pub use sealing::{seal, seal_first};
+pub use sealing::{input_hash, seal, seal_first};
 
 #[cfg(test)]
 mod tests;

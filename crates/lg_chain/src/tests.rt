@@ -3,7 +3,7 @@
 use super::*;
 use lg_types::{
     AccountMeta, Address, Amount, Asset, Entry, EntryBody, Meta, NameFault, Posting, Postings,
-    Transaction,
+    Transaction, Write,
 };
 use std::alloc::Global;
 use std::test::Fail;
@@ -42,6 +42,37 @@ fn entry(
         body,
         hash: [0; 32],
     })
+}
+
+#[test]
+fn a_creation_is_hashed_by_its_text(rt: HostRuntime) -> Result<(), Fail> {
+    let alloc = rt.alloc();
+    let first = entry(alloc, 1, 0, 0, (b"world", b"users:1"), 100)
+        .ok()
+        .ok_or("entry")?;
+    let EntryBody::NewTransaction {
+        transaction,
+        accounts,
+    } = first.body
+    else {
+        return Err("body")?;
+    };
+    let write = Write::Create {
+        postings: transaction.postings,
+        reference: None,
+        timestamp: None,
+        metadata: transaction.metadata,
+        accounts,
+        force: false,
+    };
+    assert_eq!(rt;
+        input_hash(&write),
+        [
+            6, 105, 90, 33, 248, 169, 214, 249, 229, 251, 251, 177, 193, 104, 16, 77, 74, 143, 21,
+            149, 65, 156, 152, 75, 88, 93, 168, 172, 68, 185, 181, 242
+        ]
+    );
+    Ok(())
 }
 
 #[test]

@@ -1,24 +1,21 @@
 -- How what stands after some bytes is completed to a JSON text.
-use Rattle.std.proofs.Common.{◌≡◌, ℕ, suc, ◌+◌, ◌-◌, ◌*◌, ◌<◌, ◌≤◌, ◌⊎◌, Bool, true, false, List, [], ◌∷◌, ◌++◌, length, replicate, refl, sym, ap, ◌∙◌, subst, inl, inr, arith, append_assoc, append-nil}
+use Rattle.std.proofs.Common.{◌≡◌, ℕ, suc, ◌+◌, ◌-◌, ◌*◌, ◌<◌, ◌≤◌, List, [], ◌∷◌, ◌++◌, length, refl, sym, ap, ◌∙◌, subst, inl, inr, arith, append_assoc, append-nil}
 use Rattle.std.proofs.lemmas.Bool.{cases_lt}
-use Rattle.std.proofs.lemmas.List.{length-append}
-use Rattle.std.proofs.lemmas.Str.{encode_ascii}
 use Rattle.std.specs.Char.{encode_utf8, digit_value}
-use lib.Utf8.{scalar, encodes, low_scalar}
 use Rattle.lg_json.specs.Tree.{Tree, Entry, trees, entries}
-use Rattle.lg_json.specs.Tree.Tree.{null, list, members}
-use Rattle.lg_json.specs.Grammar.{IsBlank, IsValue, IsJson, IsHexDigit, hex_number, IsUnit, IsHigh, IsLow, pair, IsChar, Fits, AllFit, MembersFit}
+use Rattle.lg_json.specs.Tree.Tree.{list, members}
+use Rattle.lg_json.specs.Grammar.{IsValue, IsJson, IsHexDigit, hex_number, IsUnit, IsHigh, IsLow, pair, Fits, AllFit, MembersFit}
 use Rattle.lg_json.specs.Grammar.IsChar.{unescaped, short, unit, surrogates}
 use Rattle.lg_json.specs.Grammar.IsShort.{slash}
-use Rattle.lg_json.specs.Reading.{Frame, complete}
+use Rattle.lg_json.specs.Reading.{Frame}
 use Rattle.lg_json.specs.Reading.Frame.{in_list, in_object, named}
 use Rattle.lg_json.specs.Before.{BeforeValue}
 use Rattle.lg_json.specs.Fault.{Begins, BeginsFitting}
-use Rattle.lg_json.specs.declared.mode.TextMode.{TextMode}
-use Rattle.lg_json.specs.declared.mode.TextMode.TheVariants.{Character, Escape, Unit as UnitMode, AfterHigh, AfterHighEscape, Low}
+use Rattle.lg_json.specs.declared.state.TextMode.{TextMode}
+use Rattle.lg_json.specs.declared.state.TextMode.TheVariants.{Character, Escape, Unit as UnitMode, AfterHigh, AfterHighEscape, Low}
 use Rattle.lg_containers.specs.declared.utf8.Utf8State.TheVariants.{Boundary, Inside}
 use Rattle.lg_containers.specs.Utf8Laws.{can_finish}
-use Rattle.lg_json.proofs.Standing.{Spelled, IsNoLow, UnitDigits, LowDigits, TextStands}
+use Rattle.lg_json.specs.Texts.{Spelled, UnitDigits, LowDigits, TextStands}
 use Rattle.lg_json.proofs.Texts.{spelled_push}
 use Rattle.lg_json.proofs.Lists.{padded}
 use Rattle.lg_json.proofs.Sound.{completes}
@@ -133,6 +130,7 @@ goal_unit t done inner more a b c d s ha hb hc hd low e = elim (cases_lt u 55296
   where
     u : ℕ
     u = hex_number a b c d
+
     whole : IsUnit u (92 ∷ 117 ∷ a ∷ b ∷ c ∷ d ∷ [])
     whole = unit_of a b c d ha hb hc hd
 
@@ -150,13 +148,13 @@ goal_digits t done inner (a ∷ b ∷ []) n u s h e =
     let hb : digit_value b < 16 = h.2 in
     let v : u ≡ digit_value a * 16 + digit_value b = h.3 in
     goal_unit t done inner (48 ∷ 48 ∷ []) a b 48 48 s h.1 h.2 zero_digit zero_digit
-      (λ l. let l0 : 56320 ≤ ((digit_value a * 16 + digit_value b) * 16 + 0) * 16 + 0 = l.0 in let l1 : ((digit_value a * 16 + digit_value b) * 16 + 0) * 16 + 0 ≤ 57343 = l.1 in elim h.4 [ inl k ↦ omega arith | inr k ↦ omega arith ]) (rw e (simp append_assoc))
+    (λ l. let l0 : 56320 ≤ ((digit_value a * 16 + digit_value b) * 16 + 0) * 16 + 0 = l.0 in let l1 : ((digit_value a * 16 + digit_value b) * 16 + 0) * 16 + 0 ≤ 57343 = l.1 in elim h.4 [ inl k ↦ omega arith | inr k ↦ omega arith ]) (rw e (simp append_assoc))
 goal_digits t done inner (a ∷ b ∷ c ∷ []) n u s h e =
     let ha : digit_value a < 16 = h.1 in
     let hb : digit_value b < 16 = h.2 in
     let hc : digit_value c < 16 = h.3 in
     goal_unit t done inner (48 ∷ []) a b c 48 s h.1 h.2 h.3 zero_digit
-      (λ l. let l0 : 56320 ≤ ((digit_value a * 16 + digit_value b) * 16 + digit_value c) * 16 + 0 = l.0 in let l1 : ((digit_value a * 16 + digit_value b) * 16 + digit_value c) * 16 + 0 ≤ 57343 = l.1 in elim h.5 [ inl k ↦ omega arith | inr k ↦ omega arith ]) (rw e (simp append_assoc))
+    (λ l. let l0 : 56320 ≤ ((digit_value a * 16 + digit_value b) * 16 + digit_value c) * 16 + 0 = l.0 in let l1 : ((digit_value a * 16 + digit_value b) * 16 + digit_value c) * 16 + 0 ≤ 57343 = l.1 in elim h.5 [ inl k ↦ omega arith | inr k ↦ omega arith ]) (rw e (simp append_assoc))
 goal_digits t done inner (a ∷ b ∷ c ∷ d ∷ ds) n u s h e = absurd h
 
 goal_low_digits : (t done front inner digits : List ℕ) (hi n u : ℕ) → Spelled t done → IsHigh hi → IsUnit hi front → LowDigits n u digits → inner ≡ done ++ (front ++ 92 ∷ 117 ∷ digits) → Goal inner

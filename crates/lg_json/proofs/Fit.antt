@@ -1,14 +1,14 @@
 -- What the reading keeps open fits, and so does each value that it completes.
-use Rattle.std.proofs.Common.{◌≡◌, ℕ, zero, suc, ◌+◌, ◌-◌, ◌^◌, ◌<◌, ◌≤◌, Bool, true, false, cond, nat_lt, nat_le, ◌==◌, List, [], ◌∷◌, ◌++◌, length, Option, Some, None, Result, Ok, Err, IfOk, ℤ, pos, negsuc, neg_ℤ, refl, sym, ap, ◌∙◌, subst, arith, ltb-true}
+use Rattle.std.proofs.Common.{◌≡◌, ℕ, zero, suc, ◌-◌, ◌^◌, ◌<◌, ◌≤◌, Bool, true, false, nat_lt, ◌==◌, List, [], ◌∷◌, length, Option, Some, None, Result, Ok, Err, IfOk, refl, sym, subst, arith, ltb-true}
 use Rattle.std.proofs.lemmas.Bool.{cond_both, leb-true}
-use Rattle.lg_json.specs.Tree.{Tree, Trees, Members, Entry, trees, entries}
-use Rattle.lg_json.specs.Tree.Tree.{null, truth, whole, text, list, members}
+use Rattle.lg_json.specs.Tree.{Tree, Entry, trees, entries}
+use Rattle.lg_json.specs.Tree.Tree.{whole, text, list, members}
 use Rattle.lg_json.specs.Grammar.{signed, InRange, Fits, AllFit, MembersFit}
-use Rattle.lg_json.specs.Reading.{Frame, Mode, State, at, is_blank, is_digit, with_value, complete, open_frame, begin, follow, after, fits, begins_part, end_number, closes, has_name, with_name, end_text, text_step, in_text_step, TextState, word_step, close_empty, step, whole_text, finish, and_then, reads, reading}
+use Rattle.lg_json.specs.Reading.{Frame, Mode, State, at, is_blank, is_digit, with_value, complete, begin, follow_on, follow, after, fits, begins_part, end_number, closes, has_name, with_name, end_text, text_step, in_text_step, TextState, word_step, close_empty, step, whole_text, finish, and_then, reads, reading}
 use Rattle.lg_json.specs.Reading.Frame.{in_list, in_object, named}
 use Rattle.lg_json.specs.Reading.Mode.{before_value, before_first, before_first_name, before_name, before_colon, in_word, after_minus, after_zero, in_digits, in_text, after_item, ended}
 use Rattle.lg_json.specs.declared.json.JsonFault.{JsonFault}
-use Rattle.lg_json.specs.declared.mode.Role.{Role}
+use Rattle.lg_json.specs.Reading.{Role}
 use Rattle.lg_json.proofs.Names.{all_fit_push, members_fit_push}
 
 abbrev pub FramesFit : List Frame → Type 0
@@ -61,17 +61,16 @@ begin_fits i fs b h =
     (λ _. cond_both (b == 48) _ _ Fitting (λ _. (h, tt))
     (λ _. cond_both (is_digit b) _ _ Fitting (λ _. (h, tt)) (λ _. tt)))))))))
 
+follow_on_fits : (i : ℕ) (fs : List Frame) (b : ℕ) → FramesFit fs → Fitting (follow_on i fs b)
+follow_on_fits i [] b h = tt
+follow_on_fits i (in_list ts ∷ fs) b h =
+    cond_both (b == 44) _ _ Fitting (λ _. (h, tt)) (λ _. cond_both (b == 93) _ _ Fitting (λ _. complete_fits fs (list (trees ts)) h.2 (list_fits ts fs h)) (λ _. tt))
+follow_on_fits i (in_object ms ∷ fs) b h =
+    cond_both (b == 44) _ _ Fitting (λ _. (h, tt)) (λ _. cond_both (b == 125) _ _ Fitting (λ _. complete_fits fs (members (entries ms)) h.2 (object_fits ms fs h)) (λ _. tt))
+follow_on_fits i (named ms name ∷ fs) b h = tt
+
 follow_fits : (i : ℕ) (fs : List Frame) (b : ℕ) → FramesFit fs → Fitting (follow i fs b)
-follow_fits i [] b h = tt
-follow_fits i (in_list ts ∷ fs) b h =
-    cond_both (is_blank b) _ _ Fitting (λ _. (h, tt))
-    (λ _. cond_both (b == 44) _ _ Fitting (λ _. (h, tt))
-    (λ _. cond_both (b == 93) _ _ Fitting (λ _. complete_fits fs (list (trees ts)) h.2 (list_fits ts fs h)) (λ _. tt)))
-follow_fits i (in_object ms ∷ fs) b h =
-    cond_both (is_blank b) _ _ Fitting (λ _. (h, tt))
-    (λ _. cond_both (b == 44) _ _ Fitting (λ _. (h, tt))
-    (λ _. cond_both (b == 125) _ _ Fitting (λ _. complete_fits fs (members (entries ms)) h.2 (object_fits ms fs h)) (λ _. tt)))
-follow_fits i (named ms name ∷ fs) b h = tt
+follow_fits i fs b h = cond_both (is_blank b) _ _ Fitting (λ _. (h, tt)) (λ _. follow_on_fits i fs b h)
 
 after_fits : (i : ℕ) (fs : List Frame) (t : Tree) (b : ℕ) → FramesFit fs → Fits (64 - length fs) t → Fitting (after i fs t b)
 unfolding after

@@ -1,28 +1,28 @@
 -- The reading takes the bytes of each value that fits to the state after it.
-use Rattle.std.proofs.Common.{◌≡◌, ℕ, zero, suc, ◌+◌, ◌-◌, ◌*◌, ◌^◌, ◌<◌, ◌≤◌, ◌⊎◌, min, Bool, true, false, cond, ◌||◌, nat_lt, nat_le, ◌==◌, List, [], ◌∷◌, ◌++◌, length, Result, Ok, Err, ℤ, pos, negsuc, neg_ℤ, codes, refl, sym, ap, ◌∙◌, subst, inl, inr, arith, append_assoc, append-nil, eqb-true, ltb-true, ltb-false}
-use Rattle.std.proofs.lemmas.Bool.{cond-true, cond-false, cases_Bool, cases_lt, lt-ltb, le-ltb, ne_eqb, leb-true, le-leb, lt-leb, false≢true}
+use Rattle.std.proofs.Common.{◌≡◌, ℕ, zero, suc, ◌+◌, ◌-◌, ◌^◌, ◌<◌, ◌≤◌, ◌⊎◌, Bool, true, false, cond, nat_lt, ◌==◌, List, [], ◌∷◌, ◌++◌, length, Result, Ok, Err, ℤ, refl, sym, ap, ◌∙◌, subst, inl, inr, arith, append_assoc, append-nil, ltb-true, ltb-false}
+use Rattle.std.proofs.lemmas.Bool.{cond-true, cond-false, cases_Bool, lt-ltb, ne_eqb, leb-true, le-leb, false≢true}
 use Rattle.std.proofs.lemmas.List.{length-append}
 use lib.Utf8.{encodes}
 use Rattle.lg_json.specs.Tree.{Tree, Trees, Members, Entry, trees, entries}
 use Rattle.lg_json.specs.Tree.Tree.{null, truth, whole, part, text, list, members}
 use Rattle.lg_json.specs.Tree.Trees.{none, item}
 use Rattle.lg_json.specs.Tree.Members.{no_member, member}
-use Rattle.lg_json.specs.Grammar.{IsBlank, IsBlankByte, IsInt, IsPositive, IsWhole, IsFraction, IsExponent, IsFractionAndExponent, IsPart, number_from, signed, minus_if, Padded, IsString, IsMember, IsValue, AreItems, AreMembers, IsJson, InRange, IsNew, Fits, AllFit, MembersFit}
-use Rattle.lg_json.specs.Reading.{Frame, Mode, State, at, is_blank, is_digit, with_value, complete, begin, capped, fits, begins_part, has_name, with_name, end_text, closes, step, finish, and_then, reads, reading}
+use Rattle.lg_json.specs.Grammar.{IsBlank, IsBlankByte, IsInt, IsFraction, IsExponent, IsFractionAndExponent, number_from, signed, minus_if, Padded, IsString, IsMember, IsValue, AreItems, AreMembers, InRange, Fits, AllFit, MembersFit}
+use Rattle.lg_json.specs.Reading.{Frame, Mode, at, is_blank, is_digit, complete, begin, capped, fits, begins_part, has_name, with_name, end_text, step, and_then, reads}
 use Rattle.lg_json.specs.Reading.Frame.{in_list, in_object, named}
-use Rattle.lg_json.specs.Reading.Mode.{before_value, before_first, before_first_name, before_name, before_colon, in_text, after_item, ended}
+use Rattle.lg_json.specs.Reading.Mode.{before_value, before_first, before_first_name, before_name, before_colon, in_text, after_item}
 use Rattle.lg_json.specs.Fault.{EndsNumber}
 use Rattle.lg_json.specs.declared.json.JsonFault.{JsonFault}
-use Rattle.lg_json.specs.declared.json.JsonFault.TheVariants.{Syntax, NotWhole, TooWide, TooDeep, Repeated}
-use Rattle.lg_json.specs.declared.mode.Role.{Role}
-use Rattle.lg_json.specs.declared.mode.TextMode.{TextMode}
-use Rattle.lg_json.specs.declared.mode.TextMode.TheVariants.{Character}
+use Rattle.lg_json.specs.declared.json.JsonFault.TheVariants.{NotWhole, TooWide, TooDeep, Repeated}
+use Rattle.lg_json.specs.Reading.{Role}
+use Rattle.lg_json.specs.declared.state.TextMode.TheVariants.{Character}
 use Rattle.lg_containers.specs.declared.utf8.Utf8State.TheVariants.{Boundary}
-use Rattle.lg_json.proofs.Meets.{Meets, IsOther, Any, then_on, meets_from, meets_under, meets_before}
+use Rattle.lg_json.proofs.Meets.{Meets, Any, then_on, meets_from, meets_under, meets_before}
 use Rattle.lg_json.proofs.Meets.Meets.{goes, stops}
-use Rattle.lg_json.proofs.Reaches.{reads_one, reads_stop, reads_none, reads_at, blank_test, Passes, past_blanks, value_passes, first_passes, first_name_passes, name_passes, colon_passes, item_passes, member_passes, end_passes, begins, begins_at, value_begins, first_begins, word_null, word_true, word_false, IsInNumber, number_goes}
+use Rattle.lg_json.specs.Tokens.{Passes, begins}
+use Rattle.lg_json.proofs.Reaches.{reads_one, reads_at, past_blanks, value_passes, first_passes, first_name_passes, name_passes, colon_passes, item_passes, begins_at, value_begins, first_begins, word_null, word_true, word_false, number_goes}
 use Rattle.lg_json.proofs.TextRuns.{chars_run, text_reads}
-use Rattle.lg_json.proofs.Names.{has_name-push, AllNew, new_to_none, all_new_push, list_of, entries_of, trees-list_of, entries-entries_of}
+use Rattle.lg_json.proofs.Names.{AllNew, new_to_none, all_new_push, list_of, entries_of, trees-list_of, entries-entries_of}
 
 -- the room for what is in the innermost of what is open
 abbrev pub room_in : List Frame → ℕ
@@ -126,15 +126,15 @@ padded_goes t g i j fs m k gs bytes e d ready same passes h place =
     let i1 = i + length before in
     let j1 = i1 + length inner in
     meets_from
-      (λ rest _. ap (λ (l : List ℕ). reads i (at fs m) l) (regroup rest) ∙ past_blanks fs m before (inner ++ ((after ++ e ∷ []) ++ rest)) i i1 ready.passes h.3 refl ∙ starts_word fs m inner ((after ++ e ∷ []) ++ rest) i1 ready (head_of t inner h.4))
-      (λ rest _. ap (λ (l : List ℕ). reads j1 (complete fs t) l) (append_assoc after (e ∷ []) rest) ∙ ap (λ s. reads j1 s (after ++ e ∷ rest)) same ∙ past_blanks gs k after (e ∷ rest) j1 j passes h.5 (omega arith))
-      (meets_before (after ++ e ∷ []) (λ rest _. ends_after after e rest h.5 d) (g i1 j1 fs inner h.4 refl))
+    (λ rest _. ap (λ (l : List ℕ). reads i (at fs m) l) (regroup rest) ∙ past_blanks fs m before (inner ++ ((after ++ e ∷ []) ++ rest)) i i1 ready.passes h.3 refl ∙ starts_word fs m inner ((after ++ e ∷ []) ++ rest) i1 ready (head_of t inner h.4))
+    (λ rest _. ap (λ (l : List ℕ). reads j1 (complete fs t) l) (append_assoc after (e ∷ []) rest) ∙ ap (λ s. reads j1 s (after ++ e ∷ rest)) same ∙ past_blanks gs k after (e ∷ rest) j1 j passes h.5 (omega arith))
+    (meets_before (after ++ e ∷ []) (λ rest _. ends_after after e rest h.5 d) (g i1 j1 fs inner h.4 refl))
   where
     regroup : (rest : List ℕ) → bytes ++ e ∷ rest ≡ h.0 ++ (h.1 ++ ((h.2 ++ e ∷ []) ++ rest))
     regroup rest = rw h.6 (simp append_assoc)
 
 -- after an item
-comma_item : (i : ℕ) (ts : List Tree) (fs : List Frame) → step i (in_list ts ∷ fs) after_item 44 ≡ Ok (at (in_list ts ∷ fs) before_value)
+pub comma_item : (i : ℕ) (ts : List Tree) (fs : List Frame) → step i (in_list ts ∷ fs) after_item 44 ≡ Ok (at (in_list ts ∷ fs) before_value)
 unfolding step
 comma_item i ts fs = refl
 
@@ -142,7 +142,7 @@ bracket_item : (i : ℕ) (ts : List Tree) (fs : List Frame) → step i (in_list 
 unfolding step
 bracket_item i ts fs = refl
 
-comma_member : (i : ℕ) (ms : List Entry) (fs : List Frame) → step i (in_object ms ∷ fs) after_item 44 ≡ Ok (at (in_object ms ∷ fs) before_name)
+pub comma_member : (i : ℕ) (ms : List Entry) (fs : List Frame) → step i (in_object ms ∷ fs) after_item 44 ≡ Ok (at (in_object ms ∷ fs) before_name)
 unfolding step
 comma_member i ms fs = refl
 
@@ -162,7 +162,7 @@ first_brace i fs = refl
 pub items_go : (t : Tree) (us : Trees) → Goes t → AllGo us → (ts : List Tree) (i j : ℕ) (fs : List Frame) (m : Mode) (inner : List ℕ) (e : ℕ) → Delimits e → Ready (in_list ts ∷ fs) m → AreItems (item t us) inner → j ≡ i + length inner
     → Meets (AllFit (room_in (in_list ts ∷ fs)) (item t us)) Any (λ rest. reads i (at (in_list ts ∷ fs) m) (inner ++ e ∷ rest)) (λ rest. reads j (at (in_list (ts ++ list_of (item t us)) ∷ fs) after_item) (e ∷ rest))
 items_go t none g gs ts i j fs m inner e d ready h place =
-    meets_under (λ p. p.0) (padded_goes t g i j (in_list ts ∷ fs) m after_item (in_list (ts ++ t ∷ []) ∷ fs) inner e d ready refl (item_passes (ts ++ t ∷ []) fs) h place)
+    meets_under (λ p. p.0) (padded_goes t g i j (in_list ts ∷ fs) m after_item (in_list (ts ++ t ∷ []) ∷ fs) inner e d ready refl (item_passes (in_list (ts ++ t ∷ []) ∷ fs)) h place)
 items_go t (item u us) g gs ts i j fs m inner e d ready h place =
     let first = h.0 in
     let others = h.1 in
@@ -170,14 +170,14 @@ items_go t (item u us) g gs ts i j fs m inner e d ready h place =
     let total : length inner ≡ length first + suc (length others) = ap length h.4 ∙ length-append first (44 ∷ others) in
     let frame = in_list (ts ++ t ∷ []) in
     meets_under (λ p. (p.0, p.1))
-      (then_on
-        (meets_from
-          (λ rest _. ap (λ (l : List ℕ). reads i (at (in_list ts ∷ fs) m) l) (regroup rest))
-          (λ rest _. reads_one j1 (frame ∷ fs) after_item 44 ((others ++ e ∷ []) ++ rest) (at (frame ∷ fs) before_value) (comma_item j1 (ts ++ t ∷ []) fs) ∙ ap (λ (l : List ℕ). reads (suc j1) (at (frame ∷ fs) before_value) l) (append_assoc others (e ∷ []) rest))
-          (meets_before (others ++ e ∷ []) (λ rest _. tt)
-            (padded_goes t g i j1 (in_list ts ∷ fs) m after_item (frame ∷ fs) first 44 comma ready refl (item_passes (ts ++ t ∷ []) fs) h.2 refl)))
-        (meets_from (λ rest _. refl) (λ rest _. ap (λ l. reads j (at (in_list l ∷ fs) after_item) (e ∷ rest)) (append_assoc ts (t ∷ []) (u ∷ list_of us)))
-          (items_go u us gs.0 gs.1 (ts ++ t ∷ []) (suc j1) j fs before_value others e d (value_ready (frame ∷ fs)) h.3 (omega arith))))
+    (then_on
+    (meets_from
+    (λ rest _. ap (λ (l : List ℕ). reads i (at (in_list ts ∷ fs) m) l) (regroup rest))
+    (λ rest _. reads_one j1 (frame ∷ fs) after_item 44 ((others ++ e ∷ []) ++ rest) (at (frame ∷ fs) before_value) (comma_item j1 (ts ++ t ∷ []) fs) ∙ ap (λ (l : List ℕ). reads (suc j1) (at (frame ∷ fs) before_value) l) (append_assoc others (e ∷ []) rest))
+    (meets_before (others ++ e ∷ []) (λ rest _. tt)
+    (padded_goes t g i j1 (in_list ts ∷ fs) m after_item (frame ∷ fs) first 44 comma ready refl (item_passes (in_list (ts ++ t ∷ []) ∷ fs)) h.2 refl)))
+    (meets_from (λ rest _. refl) (λ rest _. ap (λ l. reads j (at (in_list l ∷ fs) after_item) (e ∷ rest)) (append_assoc ts (t ∷ []) (u ∷ list_of us)))
+    (items_go u us gs.0 gs.1 (ts ++ t ∷ []) (suc j1) j fs before_value others e d (value_ready (frame ∷ fs)) h.3 (omega arith))))
   where
     regroup : (rest : List ℕ) → inner ++ e ∷ rest ≡ h.0 ++ 44 ∷ ((h.1 ++ e ∷ []) ++ rest)
     regroup rest = rw h.4 (simp append_assoc)
@@ -208,7 +208,7 @@ pub name_ready : (fs : List Frame) → NameReady fs before_name
 unfolding step
 name_ready fs = record { passes = name_passes fs; starts = λ i. refl }
 
-colon_step : (i : ℕ) (fs : List Frame) → step i fs before_colon 58 ≡ Ok (at fs before_value)
+pub colon_step : (i : ℕ) (fs : List Frame) → step i fs before_colon 58 ≡ Ok (at fs before_value)
 unfolding step
 colon_step i fs = refl
 
@@ -235,18 +235,25 @@ name_goes name a h i j ms fs m ready place = elim (cases_Bool (has_name name ms)
   where
     i1 : ℕ
     i1 = i + length h.0
+
     k : ℕ
     k = i1 + length h.4.inner + 1
+
     total : length a ≡ length h.0 + (length h.1 + length h.2)
     total = ap length h.6 ∙ length-append h.0 (h.1 ++ h.2) ∙ ap (λ n. length h.0 + n) (length-append h.1 h.2)
+
     quoted_length : length h.1 ≡ length h.4.inner + 2
     quoted_length = let e : length h.1 ≡ suc (length (h.4.inner ++ 34 ∷ [])) = ap length h.4.parts in omega (arith, length-append h.4.inner (34 ∷ []))
+
     quote_place : suc k ≡ i1 + length h.1
     quote_place = omega (arith, quoted_length)
+
     last_place : suc (suc k + length h.2) ≡ j
     last_place = omega (arith, total, quoted_length)
+
     regroup : (rest : List ℕ) → a ++ 58 ∷ rest ≡ h.0 ++ (h.1 ++ (h.2 ++ 58 ∷ rest))
     regroup rest = rw h.6 (simp append_assoc)
+
     to_quote : (rest : List ℕ) → reads i (at (in_object ms ∷ fs) m) (a ++ 58 ∷ rest) ≡ and_then (with_name k i1 (in_object ms ∷ fs) name) (λ next. reads (suc k) next (h.2 ++ 58 ∷ rest))
     to_quote rest =
         ap (λ (l : List ℕ). reads i (at (in_object ms ∷ fs) m) l) (regroup rest)
@@ -261,11 +268,11 @@ member_goes name t g i j ms fs m bytes e d ready h place =
     let j1 = i + suc (length a) in
     let total : length bytes ≡ length a + suc (length b) = ap length h.4 ∙ length-append a (58 ∷ b) in
     then_on
-      (meets_from
-        (λ rest _. ap (λ (l : List ℕ). reads i (at (in_object ms ∷ fs) m) l) (regroup rest))
-        (λ rest _. ap (λ (l : List ℕ). reads j1 (at (named ms name ∷ fs) before_value) l) (append_assoc b (e ∷ []) rest))
-        (meets_before (b ++ e ∷ []) (λ rest _. tt) (name_goes name a h.2 i j1 ms fs m ready refl)))
-      (padded_goes t g j1 j (named ms name ∷ fs) before_value after_item (in_object (ms ++ (name, t) ∷ []) ∷ fs) b e d (value_ready (named ms name ∷ fs)) refl (member_passes (ms ++ (name, t) ∷ []) fs) h.3 (omega arith))
+    (meets_from
+    (λ rest _. ap (λ (l : List ℕ). reads i (at (in_object ms ∷ fs) m) l) (regroup rest))
+    (λ rest _. ap (λ (l : List ℕ). reads j1 (at (named ms name ∷ fs) before_value) l) (append_assoc b (e ∷ []) rest))
+    (meets_before (b ++ e ∷ []) (λ rest _. tt) (name_goes name a h.2 i j1 ms fs m ready refl)))
+    (padded_goes t g j1 j (named ms name ∷ fs) before_value after_item (in_object (ms ++ (name, t) ∷ []) ∷ fs) b e d (value_ready (named ms name ∷ fs)) refl (item_passes (in_object (ms ++ (name, t) ∷ []) ∷ fs)) h.3 (omega arith))
   where
     regroup : (rest : List ℕ) → bytes ++ e ∷ rest ≡ h.0 ++ 58 ∷ ((h.1 ++ e ∷ []) ++ rest)
     regroup rest = rw h.4 (simp append_assoc)
@@ -282,13 +289,13 @@ members_go name t (member other u us) g gs ms i j fs m inner e d ready h place =
     let total : length inner ≡ length first + suc (length others) = ap length h.4 ∙ length-append first (44 ∷ others) in
     let frame = in_object (ms ++ (name, t) ∷ []) in
     meets_under (λ p. ((p.0.0, p.1.1), (all_new_push ms name t (member other u us) p.0.1 p.1.0, p.1.2)))
-      (then_on
-        (meets_from
-          (λ rest _. ap (λ (l : List ℕ). reads i (at (in_object ms ∷ fs) m) l) (regroup rest))
-          (λ rest _. reads_one j1 (frame ∷ fs) after_item 44 ((others ++ e ∷ []) ++ rest) (at (frame ∷ fs) before_name) (comma_member j1 (ms ++ (name, t) ∷ []) fs) ∙ ap (λ (l : List ℕ). reads (suc j1) (at (frame ∷ fs) before_name) l) (append_assoc others (e ∷ []) rest))
-          (meets_before (others ++ e ∷ []) (λ rest _. tt) (member_goes name t g i j1 ms fs m first 44 comma ready h.2 refl)))
-        (meets_from (λ rest _. refl) (λ rest _. ap (λ l. reads j (at (in_object l ∷ fs) after_item) (e ∷ rest)) (append_assoc ms ((name, t) ∷ []) ((other, u) ∷ entries_of us)))
-          (members_go other u us gs.0 gs.1 (ms ++ (name, t) ∷ []) (suc j1) j fs before_name others e d (name_ready (frame ∷ fs)) h.3 (omega arith))))
+    (then_on
+    (meets_from
+    (λ rest _. ap (λ (l : List ℕ). reads i (at (in_object ms ∷ fs) m) l) (regroup rest))
+    (λ rest _. reads_one j1 (frame ∷ fs) after_item 44 ((others ++ e ∷ []) ++ rest) (at (frame ∷ fs) before_name) (comma_member j1 (ms ++ (name, t) ∷ []) fs) ∙ ap (λ (l : List ℕ). reads (suc j1) (at (frame ∷ fs) before_name) l) (append_assoc others (e ∷ []) rest))
+    (meets_before (others ++ e ∷ []) (λ rest _. tt) (member_goes name t g i j1 ms fs m first 44 comma ready h.2 refl)))
+    (meets_from (λ rest _. refl) (λ rest _. ap (λ l. reads j (at (in_object l ∷ fs) after_item) (e ∷ rest)) (append_assoc ms ((name, t) ∷ []) ((other, u) ∷ entries_of us)))
+    (members_go other u us gs.0 gs.1 (ms ++ (name, t) ∷ []) (suc j1) j fs before_name others e d (name_ready (frame ∷ fs)) h.3 (omega arith))))
   where
     regroup : (rest : List ℕ) → inner ++ e ∷ rest ≡ h.0 ++ 44 ∷ ((h.1 ++ e ∷ []) ++ rest)
     regroup rest = rw h.4 (simp append_assoc)
@@ -299,12 +306,12 @@ meets_weaken (goes f) = goes (λ rest h. f rest tt)
 meets_weaken (stops fault other bars f) = stops fault other bars (λ rest h. f rest tt)
 
 -- numbers
-in_range_fits : (negative : Bool) (m : ℕ) → InRange (signed negative m) → fits negative (capped m) ≡ true
+pub in_range_fits : (negative : Bool) (m : ℕ) → InRange (signed negative m) → fits negative (capped m) ≡ true
 in_range_fits false m h = lt-ltb (capped m) (2 ^ 127) (omega arith)
 in_range_fits true zero h = refl
 in_range_fits true (suc k) h = le-leb (capped (suc k)) (2 ^ 127) (omega arith)
 
-fits_uncapped : (negative : Bool) (m : ℕ) → fits negative (capped m) ≡ true → capped m ≡ m
+pub fits_uncapped : (negative : Bool) (m : ℕ) → fits negative (capped m) ≡ true → capped m ≡ m
 fits_uncapped true m e = let k : capped m ≤ 2 ^ 127 = leb-true (capped m) (2 ^ 127) e in omega arith
 fits_uncapped false m e = let k : capped m < 2 ^ 127 = ltb-true (capped m) (2 ^ 127) e in omega arith
 
@@ -341,7 +348,7 @@ part_goes i j fs word h place =
     let more = part_head h.2 h.4 in
     let number = number_goes i (i + length digits) fs n.negative n.digits n.is_int refl in
     stops (NotWhole i) tt (λ p. p)
-      (λ rest r. ap (λ (l : List ℕ). begins i fs (l ++ rest)) (h.5 ∙ ap (λ (l : List ℕ). l ++ h.2) n.parts) ∙ ap (λ (l : List ℕ). begins i fs l) (append_assoc digits h.2 rest ∙ ap (λ (l : List ℕ). digits ++ (l ++ rest)) more.parts) ∙ number.has_part more.first (more.others ++ rest) more.begins_one)
+    (λ rest r. ap (λ (l : List ℕ). begins i fs (l ++ rest)) (h.5 ∙ ap (λ (l : List ℕ). l ++ h.2) n.parts) ∙ ap (λ (l : List ℕ). begins i fs l) (append_assoc digits h.2 rest ∙ ap (λ (l : List ℕ). digits ++ (l ++ rest)) more.parts) ∙ number.has_part more.first (more.others ++ rest) more.begins_one)
 
 -- texts
 begin_quote : (i : ℕ) (fs : List Frame) → begin i fs 34 ≡ Ok (at fs (in_text Role.Value [] (Character Boundary)))
@@ -352,14 +359,14 @@ text_goes : (t : List ℕ) → Goes (text t)
 text_goes t i j fs word h place =
     let total : length word ≡ suc (length (h.inner ++ 34 ∷ [])) = ap length h.parts in
     goes (λ rest r. ap (λ (l : List ℕ). begins i fs (l ++ rest)) h.parts ∙ begins_at i fs 34 ((h.inner ++ 34 ∷ []) ++ rest) _ (begin_quote i fs)
-      ∙ string_reads t word h i (suc i + length h.inner) fs Role.Value rest refl ∙ reads_at _ j (complete fs (text t)) rest (omega (arith, length-append h.inner (34 ∷ []))))
+    ∙ string_reads t word h i (suc i + length h.inner) fs Role.Value rest refl ∙ reads_at _ j (complete fs (text t)) rest (omega (arith, length-append h.inner (34 ∷ []))))
 
 -- lists
-begin_list : (i : ℕ) (fs : List Frame) → begin i fs 91 ≡ cond (nat_lt (length fs) 64) (Ok (at (in_list [] ∷ fs) before_first)) (Err (TooDeep i))
+pub begin_list : (i : ℕ) (fs : List Frame) → begin i fs 91 ≡ cond (nat_lt (length fs) 64) (Ok (at (in_list [] ∷ fs) before_first)) (Err (TooDeep i))
 unfolding begin
 begin_list i fs = refl
 
-begin_object : (i : ℕ) (fs : List Frame) → begin i fs 123 ≡ cond (nat_lt (length fs) 64) (Ok (at (in_object [] ∷ fs) before_first_name)) (Err (TooDeep i))
+pub begin_object : (i : ℕ) (fs : List Frame) → begin i fs 123 ≡ cond (nat_lt (length fs) 64) (Ok (at (in_object [] ∷ fs) before_first_name)) (Err (TooDeep i))
 unfolding begin
 begin_object i fs = refl
 
@@ -372,9 +379,9 @@ list_inside none gs i j fs inner h place =
     goes (λ rest _. past_blanks (in_list [] ∷ fs) before_first inner (93 ∷ rest) i (i + length inner) (first_passes _) h refl ∙ reads_one (i + length inner) (in_list [] ∷ fs) before_first 93 rest (complete fs (list none)) (first_bracket _ fs) ∙ reads_at _ j _ rest (omega arith))
 list_inside (item t us) gs i j fs inner h place =
     meets_from (λ rest _. refl)
-      (λ rest _. reads_one (i + length inner) (in_list ([] ++ list_of (item t us)) ∷ fs) after_item 93 rest (complete fs (list (trees (list_of (item t us))))) (bracket_item _ (list_of (item t us)) fs)
-        ∙ ap (λ k. reads (suc (i + length inner)) (complete fs (list k)) rest) (trees-list_of (item t us)) ∙ reads_at _ j _ rest (omega arith))
-      (items_go t us gs.0 gs.1 [] i (i + length inner) fs before_first inner 93 bracket (first_ready (in_list [] ∷ fs)) h refl)
+    (λ rest _. reads_one (i + length inner) (in_list ([] ++ list_of (item t us)) ∷ fs) after_item 93 rest (complete fs (list (trees (list_of (item t us))))) (bracket_item _ (list_of (item t us)) fs)
+    ∙ ap (λ k. reads (suc (i + length inner)) (complete fs (list k)) rest) (trees-list_of (item t us)) ∙ reads_at _ j _ rest (omega arith))
+    (items_go t us gs.0 gs.1 [] i (i + length inner) fs before_first inner 93 bracket (first_ready (in_list [] ∷ fs)) h refl)
 
 object_inside : (ms : Members) → MembersGo ms → (i j : ℕ) (fs : List Frame) (inner : List ℕ) → AreMembers ms inner → j ≡ i + suc (length inner)
     → Meets (MembersFit (room_in (in_object [] ∷ fs)) ms) Any (λ rest. reads i (at (in_object [] ∷ fs) before_first_name) (inner ++ 125 ∷ rest)) (λ rest. reads j (complete fs (members ms)) rest)
@@ -382,10 +389,10 @@ object_inside no_member gs i j fs inner h place =
     goes (λ rest _. past_blanks (in_object [] ∷ fs) before_first_name inner (125 ∷ rest) i (i + length inner) (first_name_passes _) h refl ∙ reads_one (i + length inner) (in_object [] ∷ fs) before_first_name 125 rest (complete fs (members no_member)) (first_brace _ fs) ∙ reads_at _ j _ rest (omega arith))
 object_inside (member name t us) gs i j fs inner h place =
     meets_under (λ p. (new_to_none (member name t us), p))
-      (meets_from (λ rest _. refl)
-        (λ rest _. reads_one (i + length inner) (in_object ([] ++ entries_of (member name t us)) ∷ fs) after_item 125 rest (complete fs (members (entries (entries_of (member name t us))))) (brace_member _ (entries_of (member name t us)) fs)
-          ∙ ap (λ k. reads (suc (i + length inner)) (complete fs (members k)) rest) (entries-entries_of (member name t us)) ∙ reads_at _ j _ rest (omega arith))
-        (members_go name t us gs.0 gs.1 [] i (i + length inner) fs before_first_name inner 125 brace (first_name_ready (in_object [] ∷ fs)) h refl))
+    (meets_from (λ rest _. refl)
+    (λ rest _. reads_one (i + length inner) (in_object ([] ++ entries_of (member name t us)) ∷ fs) after_item 125 rest (complete fs (members (entries (entries_of (member name t us))))) (brace_member _ (entries_of (member name t us)) fs)
+    ∙ ap (λ k. reads (suc (i + length inner)) (complete fs (members k)) rest) (entries-entries_of (member name t us)) ∙ reads_at _ j _ rest (omega arith))
+    (members_go name t us gs.0 gs.1 [] i (i + length inner) fs before_first_name inner 125 brace (first_name_ready (in_object [] ∷ fs)) h refl))
 
 list_goes : (ts : Trees) → AllGo ts → Goes (list ts)
 list_goes ts gs i j fs word h place =
@@ -395,13 +402,13 @@ list_goes ts gs i j fs word h place =
       | inl open_still ↦ (let below : length fs < 64 = ltb-true (length fs) 64 open_still in
           meets_under (λ p. subst (λ r. AllFit r ts) (less_room (in_list []) fs) p.1)
           (meets_from
-            (λ rest _. ap (λ (l : List ℕ). begins i fs (l ++ rest)) h.2 ∙ begins_at i fs 91 ((inner ++ 93 ∷ []) ++ rest) (at (in_list [] ∷ fs) before_first) (begin_list i fs ∙ cond-true (nat_lt (length fs) 64) _ _ open_still)
-              ∙ ap (λ (l : List ℕ). reads (suc i) (at (in_list [] ∷ fs) before_first) l) (append_assoc inner (93 ∷ []) rest))
-            (λ rest _. refl)
-            (meets_weaken (list_inside ts gs (suc i) j fs inner h.1 (omega (arith, length-append inner (93 ∷ [])))))))
+          (λ rest _. ap (λ (l : List ℕ). begins i fs (l ++ rest)) h.2 ∙ begins_at i fs 91 ((inner ++ 93 ∷ []) ++ rest) (at (in_list [] ∷ fs) before_first) (begin_list i fs ∙ cond-true (nat_lt (length fs) 64) _ _ open_still)
+          ∙ ap (λ (l : List ℕ). reads (suc i) (at (in_list [] ∷ fs) before_first) l) (append_assoc inner (93 ∷ []) rest))
+          (λ rest _. refl)
+          (meets_weaken (list_inside ts gs (suc i) j fs inner h.1 (omega (arith, length-append inner (93 ∷ [])))))))
       | inr full ↦ (let above : 64 ≤ length fs = ltb-false (length fs) 64 full in
           stops (TooDeep i) tt (λ p. let some : 0 < 64 - length fs = p.0 in omega arith)
-            (λ rest _. ap (λ (l : List ℕ). begins i fs (l ++ rest)) h.2 ∙ ap (λ r. and_then r (λ next. reads (suc i) next ((inner ++ 93 ∷ []) ++ rest))) (begin_list i fs ∙ cond-false (nat_lt (length fs) 64) _ _ full)))
+          (λ rest _. ap (λ (l : List ℕ). begins i fs (l ++ rest)) h.2 ∙ ap (λ r. and_then r (λ next. reads (suc i) next ((inner ++ 93 ∷ []) ++ rest))) (begin_list i fs ∙ cond-false (nat_lt (length fs) 64) _ _ full)))
     ]
 
 object_goes : (ms : Members) → MembersGo ms → Goes (members ms)
@@ -412,13 +419,13 @@ object_goes ms gs i j fs word h place =
       | inl open_still ↦ (let below : length fs < 64 = ltb-true (length fs) 64 open_still in
           meets_under (λ p. subst (λ r. MembersFit r ms) (less_room (in_object []) fs) p.1)
           (meets_from
-            (λ rest _. ap (λ (l : List ℕ). begins i fs (l ++ rest)) h.2 ∙ begins_at i fs 123 ((inner ++ 125 ∷ []) ++ rest) (at (in_object [] ∷ fs) before_first_name) (begin_object i fs ∙ cond-true (nat_lt (length fs) 64) _ _ open_still)
-              ∙ ap (λ (l : List ℕ). reads (suc i) (at (in_object [] ∷ fs) before_first_name) l) (append_assoc inner (125 ∷ []) rest))
-            (λ rest _. refl)
-            (meets_weaken (object_inside ms gs (suc i) j fs inner h.1 (omega (arith, length-append inner (125 ∷ [])))))))
+          (λ rest _. ap (λ (l : List ℕ). begins i fs (l ++ rest)) h.2 ∙ begins_at i fs 123 ((inner ++ 125 ∷ []) ++ rest) (at (in_object [] ∷ fs) before_first_name) (begin_object i fs ∙ cond-true (nat_lt (length fs) 64) _ _ open_still)
+          ∙ ap (λ (l : List ℕ). reads (suc i) (at (in_object [] ∷ fs) before_first_name) l) (append_assoc inner (125 ∷ []) rest))
+          (λ rest _. refl)
+          (meets_weaken (object_inside ms gs (suc i) j fs inner h.1 (omega (arith, length-append inner (125 ∷ [])))))))
       | inr full ↦ (let above : 64 ≤ length fs = ltb-false (length fs) 64 full in
           stops (TooDeep i) tt (λ p. let some : 0 < 64 - length fs = p.0 in omega arith)
-            (λ rest _. ap (λ (l : List ℕ). begins i fs (l ++ rest)) h.2 ∙ ap (λ r. and_then r (λ next. reads (suc i) next ((inner ++ 125 ∷ []) ++ rest))) (begin_object i fs ∙ cond-false (nat_lt (length fs) 64) _ _ full)))
+          (λ rest _. ap (λ (l : List ℕ). begins i fs (l ++ rest)) h.2 ∙ ap (λ r. and_then r (λ next. reads (suc i) next ((inner ++ 125 ∷ []) ++ rest))) (begin_object i fs ∙ cond-false (nat_lt (length fs) 64) _ _ full)))
     ]
 
 truth_goes : (b : Bool) → Goes (truth b)

@@ -10,6 +10,12 @@ pub mod Goes
 pub mod Whole
 pub mod Fit
 pub mod Utf8Texts
-pub mod Loop
 pub mod Laws
 pub mod Completing
+pub mod Fitting
+pub mod Faults
+pub mod Fronts
+pub mod Each
+pub mod Tokens
+pub mod Steps
+pub mod Values

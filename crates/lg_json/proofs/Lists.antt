@@ -1,9 +1,9 @@
 -- Blanks, items and members as they are read from left to right.
-use Rattle.std.proofs.Common.{◌≡◌, ℕ, ◌<◌, ◌≤◌, ◌⊎◌, Bool, true, false, cond, ◌||◌, ◌&&◌, ◌==◌, nat_le, List, [], ◌∷◌, ◌++◌, length, refl, sym, ap, ◌∙◌, subst, inl, inr, arith, append_assoc, append-nil, eqb-true}
-use Rattle.std.proofs.lemmas.Bool.{or_cases, and_parts, leb-true, cond_both}
+use Rattle.std.proofs.Common.{◌≡◌, ℕ, true, ◌==◌, nat_le, List, [], ◌∷◌, ◌++◌, refl, sym, ap, ◌∙◌, inl, inr, append_assoc, append-nil, eqb-true}
+use Rattle.std.proofs.lemmas.Bool.{or_cases, and_parts, leb-true}
 use Rattle.std.specs.List.{AllByRecursion}
 use Rattle.lg_json.specs.Tree.{Tree, Entry, trees, entries}
-use Rattle.lg_json.specs.Grammar.{IsBlankByte, IsBlank, IsDigit, AreDigits, Padded, IsString, IsMember, IsValue, AreItems, AreMembers}
+use Rattle.lg_json.specs.Grammar.{IsBlankByte, IsBlank, IsDigit, Padded, IsMember, IsValue, AreItems, AreMembers}
 use Rattle.lg_json.specs.Reading.{is_blank, is_digit}
 
 pub blank_byte : (b : ℕ) → is_blank b ≡ true → IsBlankByte b

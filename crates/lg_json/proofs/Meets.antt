@@ -1,8 +1,8 @@
 -- A reading that goes on as another before every rest, or stops with one fault before every rest.
-use Rattle.std.proofs.Common.{◌≡◌, ℕ, List, [], ◌∷◌, ◌++◌, Result, Ok, Err, refl, sym, ap, ◌∙◌, subst}
+use Rattle.std.proofs.Common.{◌≡◌, ℕ, List, ◌++◌, Result, Err, ◌∙◌}
 use Rattle.lg_json.specs.Tree.{Tree}
 use Rattle.lg_json.specs.declared.json.JsonFault.{JsonFault}
-use Rattle.lg_json.specs.declared.json.JsonFault.TheVariants.{Syntax, NotWhole, TooWide, TooDeep, Repeated, NoMemory}
+use Rattle.lg_json.specs.declared.json.JsonFault.TheVariants.{Syntax, NoMemory}
 
 -- a fault of what a reader may refuse
 abbrev pub IsOther : JsonFault → Type 0

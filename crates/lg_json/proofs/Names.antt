@@ -1,8 +1,7 @@
 -- Names that are new, and those that stand twice.
-use Rattle.std.proofs.Common.{◌≡◌, ◌≢◌, ℕ, Bool, true, false, ◌||◌, List, [], ◌∷◌, ◌++◌, bytes_eq, refl, sym, ap, ◌∙◌}
-use Rattle.std.proofs.lemmas.Bool.{false_from_ne_true, or_cases, or_parts, false≢true}
+use Rattle.std.proofs.Common.{◌≡◌, ◌≢◌, ℕ, true, false, ◌||◌, List, [], ◌∷◌, ◌++◌, bytes_eq, refl, sym, ap, ◌∙◌}
+use Rattle.std.proofs.lemmas.Bool.{false_from_ne_true, or_parts, false≢true}
 use Rattle.std.proofs.lemmas.Slice.Eq.{bytes_eq-Decides}
-use Rattle.std.proofs.lemmas.List.Folds.{list_any-append}
 use Rattle.lg_json.specs.Tree.{Tree, Trees, Members, Entry, trees, entries}
 use Rattle.lg_json.specs.Tree.Trees.{none, item}
 use Rattle.lg_json.specs.Tree.Members.{no_member, member}
@@ -63,3 +62,14 @@ members_fit_push room (m ∷ ms) name t h new f =
 pub all_fit_push : (room : ℕ) (ts : List Tree) (t : Tree) → AllFit room (trees ts) → Fits room t → AllFit room (trees (ts ++ t ∷ []))
 all_fit_push room [] t h f = (f, tt)
 all_fit_push room (u ∷ us) t h f = (h.0, all_fit_push room us t h.1 f)
+
+pub new_has_not : (name : List ℕ) (ms : List Entry) → IsNew name (entries ms) → has_name name ms ≡ false
+new_has_not name [] h = refl
+new_has_not name (m ∷ ms) h = ap (λ b. b || has_name name ms) (differ m.0 name (λ e. h.0 (sym e))) ∙ new_has_not name ms h.1
+
+pub not_new : (name : List ℕ) (ms : List Entry) → has_name name ms ≡ true → IsNew name (entries ms) → ⊥
+not_new name ms e h = false≢true (sym (new_has_not name ms h) ∙ e)
+
+pub new_of_not : (name : List ℕ) (ms : List Entry) → has_name name ms ≡ false → IsNew name (entries ms)
+new_of_not name [] h = tt
+new_of_not name (m ∷ ms) h = let p = or_parts (bytes_eq m.0 name) (has_name name ms) h in (λ e. false≢true (sym p.0 ∙ same_bytes m.0 name (sym e)), new_of_not name ms p.1)

@@ -1,21 +1,21 @@
 -- The reading keeps what stands before it, so that a value that it gives is that of its bytes.
-use Rattle.std.proofs.Common.{◌≡◌, ℕ, suc, ◌+◌, ◌-◌, ◌*◌, ◌^◌, ◌<◌, ◌≤◌, ◌⊎◌, min, Bool, true, false, cond, nat_lt, nat_le, ◌==◌, List, [], ◌∷◌, ◌++◌, length, Result, Ok, Err, IfOk, ℤ, pos, neg_ℤ, codes, refl, sym, ap, ◌∙◌, subst, inl, inr, arith, append_assoc, append-nil, eqb-true, ltb-true, Option, Some, None}
+use Rattle.std.proofs.Common.{◌≡◌, ℕ, suc, ◌+◌, ◌-◌, ◌*◌, ◌^◌, ◌<◌, ◌≤◌, Bool, true, false, nat_lt, ◌==◌, List, [], ◌∷◌, ◌++◌, length, Result, Ok, Err, IfOk, refl, sym, ap, ◌∙◌, subst, inl, inr, arith, append_assoc, append-nil, eqb-true, ltb-true, Option, Some, None}
 use Rattle.std.proofs.lemmas.Bool.{cond_both, eqb-false, leb-true}
 use Rattle.std.proofs.lemmas.List.{length-append}
-use Rattle.lg_json.specs.Tree.{Tree, Entry, trees, entries}
-use Rattle.lg_json.specs.Tree.Tree.{null, truth, whole, text, list, members}
-use Rattle.lg_json.specs.Grammar.{IsBlank, IsBlankByte, IsDigit, IsPositive, IsInt, IsWhole, number_from, signed, minus_if, Padded, IsString, IsMember, IsValue, AreItems, AreMembers, IsJson}
-use Rattle.lg_json.specs.Reading.{Frame, Mode, State, at, is_blank, is_digit, with_value, complete, open_frame, begin, follow, after, capped, fits, begins_part, end_number, closes, has_name, with_name, end_text, text_step, in_text_step, TextState, word_step, close_empty, begin_name, step, whole_text, finish, and_then, reads, reading}
+use Rattle.lg_json.specs.Tree.{Tree, trees, entries}
+use Rattle.lg_json.specs.Tree.Tree.{whole, text, list, members}
+use Rattle.lg_json.specs.Grammar.{IsBlank, IsBlankByte, IsDigit, IsPositive, IsInt, IsWhole, number_from, signed, minus_if, IsString, IsMember, IsValue, IsJson}
+use Rattle.lg_json.specs.Reading.{Frame, Mode, State, at, is_blank, is_digit, with_value, complete, begin, follow_on, follow, after, capped, fits, begins_part, end_number, closes, has_name, end_text, text_step, in_text_step, TextState, word_step, close_empty, step, whole_text, finish, and_then, reads, reading}
 use Rattle.lg_json.specs.Reading.Frame.{in_list, in_object, named}
 use Rattle.lg_json.specs.Reading.Mode.{before_value, before_first, before_first_name, before_name, before_colon, in_word, after_minus, after_zero, in_digits, in_text, after_item, ended}
-use Rattle.lg_json.specs.Before.{BeforeItem, BeforeName, BeforeNamed, BeforeValue}
+use Rattle.lg_json.specs.Before.{BeforeValue}
 use Rattle.lg_json.specs.declared.json.JsonFault.{JsonFault}
-use Rattle.lg_json.specs.declared.json.JsonFault.TheVariants.{Syntax, NotWhole, TooWide, TooDeep, Repeated}
-use Rattle.lg_json.specs.declared.mode.Role.{Role}
-use Rattle.lg_json.specs.declared.mode.TextMode.{TextMode}
-use Rattle.lg_json.specs.declared.mode.TextMode.TheVariants.{Character, Escape, Unit as UnitMode, AfterHigh, AfterHighEscape, Low}
+use Rattle.lg_json.specs.Reading.{Role}
+use Rattle.lg_json.specs.declared.state.TextMode.{TextMode}
+use Rattle.lg_json.specs.declared.state.TextMode.TheVariants.{Character, Escape, Unit as UnitMode, AfterHigh, AfterHighEscape, Low}
 use Rattle.lg_containers.specs.declared.utf8.Utf8State.TheVariants.{Boundary, Inside}
-use Rattle.lg_json.proofs.Standing.{Spelled, TextStands, DigitsStand, WordStands, MinusStands, ZeroStands, RoleStands, FirstStands, FirstNameStands, NextNameStands, ColonStands, ItemStands, EndStands, Stands, StandsAt}
+use Rattle.lg_json.specs.Texts.{Spelled, TextStands}
+use Rattle.lg_json.proofs.Standing.{DigitsStand, WordStands, RoleStands, FirstStands, FirstNameStands, NextNameStands, ColonStands, ItemStands, EndStands, Stands, StandsAt}
 use Rattle.lg_json.proofs.Lists.{blank_byte, digit_byte, all_snoc, blank_snoc, snoc, snoc2, snoc3, padded, padded_snoc, items_snoc, members_snoc, items_push, members_push}
 use Rattle.lg_json.proofs.Texts.{spelled_none, TextGoesOn, text_goes_on}
 
@@ -34,18 +34,30 @@ pub completes : (fs : List Frame) (t : Tree) (outer word : List ℕ) → BeforeV
 completes [] t outer word before value = padded (IsValue t) outer word before value
 completes (in_list [] ∷ fs) t outer word b value =
     (b.0, b.1 ++ word, b.2, padded (IsValue t) b.1 word b.3 value, ap (λ (l : List ℕ). l ++ word) b.4 ∙ append_assoc b.0 (91 ∷ b.1) word)
-completes (in_list (u ∷ us) ∷ fs) t outer word b value =
-    (b.0, b.1 ++ 44 ∷ (b.2 ++ word), b.3, items_push u us t b.1 (b.2 ++ word) b.4 (padded (IsValue t) b.2 word b.5 value),
-     ap (λ (l : List ℕ). l ++ word) b.6 ∙ append_assoc b.0 (91 ∷ (b.1 ++ 44 ∷ b.2)) word ∙ ap (λ (l : List ℕ). b.0 ++ 91 ∷ l) (append_assoc b.1 (44 ∷ b.2) word))
+completes (in_list (u ∷ us) ∷ fs) t outer word b value = (
+  b.0,
+  b.1 ++ 44 ∷ (b.2 ++ word),
+  b.3,
+  items_push u us t b.1 (b.2 ++ word) b.4 (padded (IsValue t) b.2 word b.5 value),
+  ap (λ (l : List ℕ). l ++ word) b.6 ∙ append_assoc b.0 (91 ∷ (b.1 ++ 44 ∷ b.2)) word ∙ ap (λ (l : List ℕ). b.0 ++ 91 ∷ l) (append_assoc b.1 (44 ∷ b.2) word),
+)
 completes (in_object ms ∷ fs) t outer word b value = absurd b
 completes (named [] name ∷ fs) t outer word b value =
-    let n = b.4 in
-    (n.0, (n.1 ++ (b.1 ++ b.2)) ++ 58 ∷ (b.3 ++ word), n.2, member_made name t n.1 b.1 b.2 b.3 word n.3 b.5 b.6 b.7 value,
-     rw (b.8, n.4) (simp append_assoc))
+    let n = b.4 in (
+      n.0,
+      (n.1 ++ (b.1 ++ b.2)) ++ 58 ∷ (b.3 ++ word),
+      n.2,
+      member_made name t n.1 b.1 b.2 b.3 word n.3 b.5 b.6 b.7 value,
+      rw (b.8, n.4) (simp append_assoc),
+    )
 completes (named (m ∷ ms) name ∷ fs) t outer word b value =
-    let n = b.4 in
-    (n.0, n.1 ++ 44 ∷ ((n.2 ++ (b.1 ++ b.2)) ++ 58 ∷ (b.3 ++ word)), n.3, members_push m ms name t n.1 _ n.4 (member_made name t n.2 b.1 b.2 b.3 word n.5 b.5 b.6 b.7 value),
-     rw (b.8, n.6) (simp append_assoc))
+    let n = b.4 in (
+      n.0,
+      n.1 ++ 44 ∷ ((n.2 ++ (b.1 ++ b.2)) ++ 58 ∷ (b.3 ++ word)),
+      n.3,
+      members_push m ms name t n.1 _ n.4 (member_made name t n.2 b.1 b.2 b.3 word n.5 b.5 b.6 b.7 value),
+      rw (b.8, n.6) (simp append_assoc),
+    )
 
 -- the same, told of the bytes that were read
 pub completed : (fs : List Frame) (t : Tree) (front outer word : List ℕ) → front ≡ outer ++ word → BeforeValue fs outer → IsValue t word → Keeps front (Ok (complete fs t))
@@ -66,9 +78,9 @@ unfolding begin
 begin_keeps i fs b front place before =
     cond_both (b == 34) _ _ (Keeps (front ++ b ∷ [])) (λ e. (front, [], before, spelled_none, last_is front b 34 e))
     (λ _. cond_both (b == 91) _ _ (Keeps (front ++ b ∷ []))
-      (λ e. cond_both (nat_lt (length fs) 64) _ _ (Keeps (front ++ b ∷ [])) (λ _. (front, [], before, tt, last_is front b 91 e)) (λ _. tt))
+    (λ e. cond_both (nat_lt (length fs) 64) _ _ (Keeps (front ++ b ∷ [])) (λ _. (front, [], before, tt, last_is front b 91 e)) (λ _. tt))
     (λ _. cond_both (b == 123) _ _ (Keeps (front ++ b ∷ []))
-      (λ e. cond_both (nat_lt (length fs) 64) _ _ (Keeps (front ++ b ∷ [])) (λ _. (front, [], before, tt, last_is front b 123 e)) (λ _. tt))
+    (λ e. cond_both (nat_lt (length fs) 64) _ _ (Keeps (front ++ b ∷ [])) (λ _. (front, [], before, tt, last_is front b 123 e)) (λ _. tt))
     (λ _. cond_both (b == 110) _ _ (Keeps (front ++ b ∷ [])) (λ e. (front, 110 ∷ [], before, refl, last_is front b 110 e))
     (λ _. cond_both (b == 116) _ _ (Keeps (front ++ b ∷ [])) (λ e. (front, 116 ∷ [], before, refl, last_is front b 116 e))
     (λ _. cond_both (b == 102) _ _ (Keeps (front ++ b ∷ [])) (λ e. (front, 102 ∷ [], before, refl, last_is front b 102 e))
@@ -76,23 +88,32 @@ begin_keeps i fs b front place before =
     (λ _. cond_both (b == 48) _ _ (Keeps (front ++ b ∷ [])) (λ e. (front, before, place, last_is front b 48 e))
     (λ ne. cond_both (is_digit b) _ _ (Keeps (front ++ b ∷ [])) (λ e. digits_begin (BeforeValue fs) false i i b front front before place (sym (append-nil front)) e ne) (λ _. tt)))))))))
 
-pub follow_keeps : (i : ℕ) (fs : List Frame) (b : ℕ) (front : List ℕ) → ItemStands fs front → Keeps (front ++ b ∷ []) (follow i fs b)
-follow_keeps i [] b front s = absurd s
-follow_keeps i (in_list [] ∷ fs) b front s = absurd s
-follow_keeps i (in_list (t ∷ ts) ∷ fs) b front s =
-    cond_both (is_blank b) _ _ (Keeps (front ++ b ∷ [])) (λ e. (s.0, s.1 ++ b ∷ [], s.2, items_snoc t ts s.1 b (blank_byte b e) s.3, snoc front s.0 (91 ∷ s.1) b s.4))
-    (λ _. cond_both (b == 44) _ _ (Keeps (front ++ b ∷ [])) (λ e. (s.0, s.1, [], s.2, s.3, tt, last_is front b 44 e ∙ snoc front s.0 (91 ∷ s.1) 44 s.4))
+item_blank : (fs : List Frame) (b : ℕ) (front : List ℕ) → IsBlankByte b → ItemStands fs front → ItemStands fs (front ++ b ∷ [])
+item_blank [] b front blank s = absurd s
+item_blank (in_list [] ∷ fs) b front blank s = absurd s
+item_blank (in_list (t ∷ ts) ∷ fs) b front blank s = (s.0, s.1 ++ b ∷ [], s.2, items_snoc t ts s.1 b blank s.3, snoc front s.0 (91 ∷ s.1) b s.4)
+item_blank (in_object [] ∷ fs) b front blank s = absurd s
+item_blank (in_object (m ∷ ms) ∷ fs) b front blank s = (s.0, s.1 ++ b ∷ [], s.2, members_snoc m ms s.1 b blank s.3, snoc front s.0 (123 ∷ s.1) b s.4)
+item_blank (named ms name ∷ fs) b front blank s = absurd s
+
+follow_on_keeps : (i : ℕ) (fs : List Frame) (b : ℕ) (front : List ℕ) → ItemStands fs front → Keeps (front ++ b ∷ []) (follow_on i fs b)
+follow_on_keeps i [] b front s = absurd s
+follow_on_keeps i (in_list [] ∷ fs) b front s = absurd s
+follow_on_keeps i (in_list (t ∷ ts) ∷ fs) b front s =
+    cond_both (b == 44) _ _ (Keeps (front ++ b ∷ [])) (λ e. (s.0, s.1, [], s.2, s.3, tt, last_is front b 44 e ∙ snoc front s.0 (91 ∷ s.1) 44 s.4))
     (λ _. cond_both (b == 93) _ _ (Keeps (front ++ b ∷ []))
-      (λ e. completed fs (list (trees (t ∷ ts))) (front ++ b ∷ []) s.0 (91 ∷ (s.1 ++ 93 ∷ [])) (last_is front b 93 e ∙ snoc front s.0 (91 ∷ s.1) 93 s.4) s.2 (s.1, s.3, refl))
-      (λ _. tt)))
-follow_keeps i (in_object [] ∷ fs) b front s = absurd s
-follow_keeps i (in_object (m ∷ ms) ∷ fs) b front s =
-    cond_both (is_blank b) _ _ (Keeps (front ++ b ∷ [])) (λ e. (s.0, s.1 ++ b ∷ [], s.2, members_snoc m ms s.1 b (blank_byte b e) s.3, snoc front s.0 (123 ∷ s.1) b s.4))
-    (λ _. cond_both (b == 44) _ _ (Keeps (front ++ b ∷ [])) (λ e. (s.0, s.1, [], s.2, s.3, tt, last_is front b 44 e ∙ snoc front s.0 (123 ∷ s.1) 44 s.4))
+    (λ e. completed fs (list (trees (t ∷ ts))) (front ++ b ∷ []) s.0 (91 ∷ (s.1 ++ 93 ∷ [])) (last_is front b 93 e ∙ snoc front s.0 (91 ∷ s.1) 93 s.4) s.2 (s.1, s.3, refl))
+    (λ _. tt))
+follow_on_keeps i (in_object [] ∷ fs) b front s = absurd s
+follow_on_keeps i (in_object (m ∷ ms) ∷ fs) b front s =
+    cond_both (b == 44) _ _ (Keeps (front ++ b ∷ [])) (λ e. (s.0, s.1, [], s.2, s.3, tt, last_is front b 44 e ∙ snoc front s.0 (123 ∷ s.1) 44 s.4))
     (λ _. cond_both (b == 125) _ _ (Keeps (front ++ b ∷ []))
-      (λ e. completed fs (members (entries (m ∷ ms))) (front ++ b ∷ []) s.0 (123 ∷ (s.1 ++ 125 ∷ [])) (last_is front b 125 e ∙ snoc front s.0 (123 ∷ s.1) 125 s.4) s.2 (s.1, s.3, refl))
-      (λ _. tt)))
-follow_keeps i (named ms name ∷ fs) b front s = absurd s
+    (λ e. completed fs (members (entries (m ∷ ms))) (front ++ b ∷ []) s.0 (123 ∷ (s.1 ++ 125 ∷ [])) (last_is front b 125 e ∙ snoc front s.0 (123 ∷ s.1) 125 s.4) s.2 (s.1, s.3, refl))
+    (λ _. tt))
+follow_on_keeps i (named ms name ∷ fs) b front s = absurd s
+
+pub follow_keeps : (i : ℕ) (fs : List Frame) (b : ℕ) (front : List ℕ) → ItemStands fs front → Keeps (front ++ b ∷ []) (follow i fs b)
+follow_keeps i fs b front s = cond_both (is_blank b) _ _ (Keeps (front ++ b ∷ [])) (λ e. item_blank fs b front (blank_byte b e) s) (λ _. follow_on_keeps i fs b front s)
 
 pub after_keeps : (i : ℕ) (fs : List Frame) (t : Tree) (b : ℕ) (front outer word : List ℕ) → front ≡ outer ++ word → BeforeValue fs outer → IsValue t word → Keeps (front ++ b ∷ []) (after i fs t b)
 unfolding after
@@ -121,19 +142,19 @@ unfolding end_number
 end_keeps i fs negative n p b front outer digits e before is_int value =
     cond_both (begins_part b) _ _ (Keeps (front ++ b ∷ [])) (λ _. tt)
     (λ _. cond_both (fits negative n) _ _ (Keeps (front ++ b ∷ []))
-      (λ f. after_keeps i fs (whole (signed negative n)) b front outer (minus_if negative ++ digits) e before (whole_of negative n digits is_int value f))
-      (λ _. tt))
+    (λ f. after_keeps i fs (whole (signed negative n)) b front outer (minus_if negative ++ digits) e before (whole_of negative n digits is_int value f))
+    (λ _. tt))
 
 pub word_keeps : (i : ℕ) (fs : List Frame) (rest : List ℕ) (t : Tree) (b : ℕ) (front : List ℕ) → WordStands (BeforeValue fs) rest t front → Keeps (front ++ b ∷ []) (word_step i fs rest t b)
 word_keeps i fs [] t b front s = tt
 word_keeps i fs (c ∷ []) t b front s =
     cond_both (b == c) _ _ (Keeps (front ++ b ∷ []))
-      (λ e. completed fs t (front ++ b ∷ []) s.0 (s.1 ++ c ∷ []) (last_is front b c e ∙ snoc front s.0 s.1 c s.4) s.2 s.3)
-      (λ _. tt)
+    (λ e. completed fs t (front ++ b ∷ []) s.0 (s.1 ++ c ∷ []) (last_is front b c e ∙ snoc front s.0 s.1 c s.4) s.2 s.3)
+    (λ _. tt)
 word_keeps i fs (c ∷ d ∷ ds) t b front s =
     cond_both (b == c) _ _ (Keeps (front ++ b ∷ []))
-      (λ e. (s.0, s.1 ++ c ∷ [], s.2, subst (IsValue t) (sym (append_assoc s.1 (c ∷ []) (d ∷ ds))) s.3, last_is front b c e ∙ snoc front s.0 s.1 c s.4))
-      (λ _. tt)
+    (λ e. (s.0, s.1 ++ c ∷ [], s.2, subst (IsValue t) (sym (append_assoc s.1 (c ∷ []) (d ∷ ds))) s.3, last_is front b c e ∙ snoc front s.0 s.1 c s.4))
+    (λ _. tt)
 
 number_from-snoc : (n : ℕ) (ds : List ℕ) (b : ℕ) → number_from n (ds ++ b ∷ []) ≡ number_from n ds * 10 + (b - 48)
 number_from-snoc n [] b = refl
@@ -150,12 +171,16 @@ pub digits_keep : (i : ℕ) (fs : List Frame) (negative : Bool) (n p b : ℕ) (f
 unfolding step
 digits_keep i fs negative n p b front s =
     cond_both (is_digit b) _ _ (Keeps (front ++ b ∷ []))
-      (λ e. record {
-        outer = s.outer; digits = s.digits ++ b ∷ []; before = s.before; first = s.first;
-        positive = positive_snoc s.digits b s.positive (digit_byte b e);
-        value = more_capped n (number_from 0 s.digits) (b - 48) s.value ∙ ap capped (sym (number_from-snoc 0 s.digits b));
-        parts = snoc2 front s.outer (minus_if negative) s.digits b s.parts })
-      (λ _. end_keeps i fs negative n p b front s.outer s.digits s.parts s.before (inr s.positive) s.value)
+    (λ e. record {
+      outer = s.outer;
+      digits = s.digits ++ b ∷ [];
+      before = s.before;
+      first = s.first;
+      positive = positive_snoc s.digits b s.positive (digit_byte b e);
+      value = more_capped n (number_from 0 s.digits) (b - 48) s.value ∙ ap capped (sym (number_from-snoc 0 s.digits b));
+      parts = snoc2 front s.outer (minus_if negative) s.digits b s.parts;
+    })
+    (λ _. end_keeps i fs negative n p b front s.outer s.digits s.parts s.before (inr s.positive) s.value)
 
 string_of : (t inner : List ℕ) → Spelled t inner → IsString t (34 ∷ (inner ++ 34 ∷ []))
 string_of t inner s = record { chars = s.chars; inner = inner; spelled = s.spelled; value = s.value; parts = refl }
@@ -168,7 +193,7 @@ text_ends i (in_list ts ∷ fs) (Role.Name q) t front s = absurd s
 text_ends i (named ms name ∷ fs) (Role.Name q) t front s = absurd s
 text_ends i (in_object ms ∷ fs) (Role.Name q) t front s =
     cond_both (has_name t ms) _ _ (Keeps (front ++ 34 ∷ [])) (λ _. tt)
-      (λ _. (s.0, 34 ∷ (s.1 ++ 34 ∷ []), [], s.2, string_of t s.1 s.4, tt, snoc front s.0 (34 ∷ s.1) 34 s.5 ∙ ap (λ (l : List ℕ). s.0 ++ l) (sym (append-nil _))))
+    (λ _. (s.0, 34 ∷ (s.1 ++ 34 ∷ []), [], s.2, string_of t s.1 s.4, tt, snoc front s.0 (34 ∷ s.1) 34 s.5 ∙ ap (λ (l : List ℕ). s.0 ++ l) (sym (append-nil _))))
 
 -- only the quote after whole characters ends a text
 pub record Closes (m : TextMode) (b : ℕ) : Type 0 where
@@ -199,8 +224,8 @@ pub text_keeps : (i : ℕ) (fs : List Frame) (role : Role) (t : List ℕ) (m : T
 unfolding step
 text_keeps i fs role t m b front s =
     cond_both (closes m b) _ _ (Keeps (front ++ b ∷ []))
-      (λ e. let c = closes_at m b e in rw c.byte (text_ends i fs role t front (subst (λ k. RoleStands fs role t k front) c.mode s)))
-      (λ e. role_goes_on i fs role t m b front s e)
+    (λ e. let c = closes_at m b e in rw c.byte (text_ends i fs role t front (subst (λ k. RoleStands fs role t k front) c.mode s)))
+    (λ e. role_goes_on i fs role t m b front s e)
 
 close_keeps : (i : ℕ) (f : Frame) (fs : List Frame) (t : Tree) (front outer word : List ℕ) → front ≡ outer ++ word → BeforeValue fs outer → IsValue t word → Keeps front (close_empty i (f ∷ fs) t)
 close_keeps i f fs t front outer word e before value = completed fs t front outer word e before value
@@ -211,8 +236,8 @@ first_keeps i [] b front place s = absurd s
 first_keeps i (in_list [] ∷ fs) b front place s =
     cond_both (is_blank b) _ _ (Keeps (front ++ b ∷ [])) (λ e. (s.0, s.1 ++ b ∷ [], s.2, blank_snoc s.1 b s.3 (blank_byte b e), snoc front s.0 (91 ∷ s.1) b s.4))
     (λ _. cond_both (b == 93) _ _ (Keeps (front ++ b ∷ []))
-      (λ e. close_keeps i (in_list []) fs (list (trees [])) (front ++ b ∷ []) s.0 (91 ∷ (s.1 ++ 93 ∷ [])) (last_is front b 93 e ∙ snoc front s.0 (91 ∷ s.1) 93 s.4) s.2 (s.1, s.3, refl))
-      (λ _. begin_keeps i (in_list [] ∷ fs) b front place s))
+    (λ e. close_keeps i (in_list []) fs (list (trees [])) (front ++ b ∷ []) s.0 (91 ∷ (s.1 ++ 93 ∷ [])) (last_is front b 93 e ∙ snoc front s.0 (91 ∷ s.1) 93 s.4) s.2 (s.1, s.3, refl))
+    (λ _. begin_keeps i (in_list [] ∷ fs) b front place s))
 first_keeps i (in_list (t ∷ ts) ∷ fs) b front place s = absurd s
 first_keeps i (in_object ms ∷ fs) b front place s = absurd s
 first_keeps i (named ms name ∷ fs) b front place s = absurd s
@@ -227,8 +252,8 @@ first_name_keeps i (in_object [] ∷ fs) b front place s =
     cond_both (is_blank b) _ _ (Keeps (front ++ b ∷ [])) (λ e. (s.0, s.1 ++ b ∷ [], s.2, blank_snoc s.1 b s.3 (blank_byte b e), snoc front s.0 (123 ∷ s.1) b s.4))
     (λ _. cond_both (b == 34) _ _ (Keeps (front ++ b ∷ [])) (λ e. (front, [], s, place, spelled_none, last_is front b 34 e))
     (λ _. cond_both (b == 125) _ _ (Keeps (front ++ b ∷ []))
-      (λ e. close_keeps i (in_object []) fs (members (entries [])) (front ++ b ∷ []) s.0 (123 ∷ (s.1 ++ 125 ∷ [])) (last_is front b 125 e ∙ snoc front s.0 (123 ∷ s.1) 125 s.4) s.2 (s.1, s.3, refl))
-      (λ _. tt)))
+    (λ e. close_keeps i (in_object []) fs (members (entries [])) (front ++ b ∷ []) s.0 (123 ∷ (s.1 ++ 125 ∷ [])) (last_is front b 125 e ∙ snoc front s.0 (123 ∷ s.1) 125 s.4) s.2 (s.1, s.3, refl))
+    (λ _. tt)))
 
 next_name_keeps : (i : ℕ) (fs : List Frame) (b : ℕ) (front : List ℕ) → i ≡ length front → NextNameStands fs front → Keeps (front ++ b ∷ []) (step i fs before_name b)
 unfolding step
@@ -238,7 +263,7 @@ next_name_keeps i (named ms name ∷ fs) b front place s = absurd s
 next_name_keeps i (in_object [] ∷ fs) b front place s = absurd s
 next_name_keeps i (in_object (m ∷ ms) ∷ fs) b front place s =
     cond_both (is_blank b) _ _ (Keeps (front ++ b ∷ []))
-      (λ e. (s.0, s.1, s.2 ++ b ∷ [], s.3, s.4, blank_snoc s.2 b s.5 (blank_byte b e), snoc front s.0 (123 ∷ (s.1 ++ 44 ∷ s.2)) b s.6 ∙ ap (λ (l : List ℕ). s.0 ++ 123 ∷ l) (append_assoc s.1 (44 ∷ s.2) (b ∷ []))))
+    (λ e. (s.0, s.1, s.2 ++ b ∷ [], s.3, s.4, blank_snoc s.2 b s.5 (blank_byte b e), snoc front s.0 (123 ∷ (s.1 ++ 44 ∷ s.2)) b s.6 ∙ ap (λ (l : List ℕ). s.0 ++ 123 ∷ l) (append_assoc s.1 (44 ∷ s.2) (b ∷ []))))
     (λ _. cond_both (b == 34) _ _ (Keeps (front ++ b ∷ [])) (λ e. (front, [], s, place, spelled_none, last_is front b 34 e)) (λ _. tt))
 
 colon_keeps : (i : ℕ) (fs : List Frame) (b : ℕ) (front : List ℕ) → ColonStands fs front → Keeps (front ++ b ∷ []) (step i fs before_colon b)
@@ -298,8 +323,8 @@ finish_is i fs (after_zero negative p) front s = whole_is i fs (whole (signed ne
     zero_fits false = refl
 finish_is i fs (in_digits negative n p) front s =
     cond_both (fits negative n) _ _ (IsValueOf front)
-      (λ f. whole_is i fs (whole (signed negative n)) front s.outer (minus_if negative ++ s.digits) s.parts s.before (whole_of negative n s.digits (inr s.positive) s.value f))
-      (λ _. tt)
+    (λ f. whole_is i fs (whole (signed negative n)) front s.outer (minus_if negative ++ s.digits) s.parts s.before (whole_of negative n s.digits (inr s.positive) s.value f))
+    (λ _. tt)
 finish_is i [] (ended t) front s = s
 finish_is i (f ∷ fs) (ended t) front s = absurd s
 finish_is i fs before_value front s = tt

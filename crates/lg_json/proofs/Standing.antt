@@ -1,52 +1,14 @@
 -- What the bytes that were read are, in each state of the reading.
-use Rattle.std.proofs.Common.{◌≡◌, ℕ, ◌+◌, ◌*◌, ◌<◌, ◌≤◌, ◌⊎◌, Bool, List, [], ◌∷◌, ◌++◌, length}
-use Rattle.std.specs.Char.{digit_value}
-use Rattle.std.specs.Str.{encode_utf8_all}
-use Rattle.lg_containers.specs.Utf8.{BeginsChar}
-use Rattle.lg_containers.specs.declared.utf8.Utf8State.TheVariants.{Boundary, Inside}
+use Rattle.std.proofs.Common.{◌≡◌, ℕ, Bool, List, [], ◌∷◌, ◌++◌, length}
 use Rattle.lg_json.specs.Tree.{Tree, Entry, trees, entries}
-use Rattle.lg_json.specs.Grammar.{IsBlank, IsHexDigit, IsPositive, number_from, minus_if, IsUnit, IsHigh, AreChars, IsString, IsValue, AreItems, AreMembers, IsJson}
+use Rattle.lg_json.specs.Grammar.{IsBlank, IsPositive, number_from, minus_if, IsString, IsValue, AreItems, AreMembers, IsJson}
 use Rattle.lg_json.specs.Reading.{Frame, Mode, State, capped}
 use Rattle.lg_json.specs.Reading.Frame.{in_list, in_object, named}
 use Rattle.lg_json.specs.Reading.Mode.{before_value, before_first, before_first_name, before_name, before_colon, in_word, after_minus, after_zero, in_digits, in_text, after_item, ended}
+use Rattle.lg_json.specs.Texts.{TextStands}
 use Rattle.lg_json.specs.Before.{BeforeName, BeforeValue}
-use Rattle.lg_json.specs.declared.mode.TextMode.{TextMode}
-use Rattle.lg_json.specs.declared.mode.TextMode.TheVariants.{Character, Escape, Unit as UnitMode, AfterHigh, AfterHighEscape, Low}
-use Rattle.lg_json.specs.declared.mode.Role.{Role}
-
--- whole characters, and their text
-pub record Spelled (t inner : List ℕ) : Type 0 where
-  pub chars : List ℕ
-  pub spelled : AreChars chars inner
-  pub value : t ≡ encode_utf8_all chars
-
--- the digits of an escape so far: how many are to come, and their value. Two digits tell a low surrogate.
-abbrev pub IsNoLow : ℕ → Type 0
-IsNoLow u = (u < 220) ⊎ (223 < u)
-
-abbrev pub UnitDigits : ℕ → ℕ → List ℕ → Type 0
-UnitDigits n u [] = (n ≡ 4) × (u ≡ 0)
-UnitDigits n u (a ∷ []) = (n ≡ 3) × IsHexDigit a × (u ≡ digit_value a)
-UnitDigits n u (a ∷ b ∷ []) = (n ≡ 2) × IsHexDigit a × IsHexDigit b × (u ≡ digit_value a * 16 + digit_value b) × IsNoLow u
-UnitDigits n u (a ∷ b ∷ c ∷ []) = (n ≡ 1) × IsHexDigit a × IsHexDigit b × IsHexDigit c × (u ≡ (digit_value a * 16 + digit_value b) * 16 + digit_value c) × IsNoLow (digit_value a * 16 + digit_value b)
-UnitDigits n u (a ∷ b ∷ c ∷ d ∷ ds) = ⊥
-
-abbrev pub LowDigits : ℕ → ℕ → List ℕ → Type 0
-LowDigits n u [] = (n ≡ 4) × (u ≡ 0)
-LowDigits n u (a ∷ []) = (n ≡ 3) × (digit_value a ≡ 13) × (u ≡ 13)
-LowDigits n u (a ∷ b ∷ []) = (n ≡ 2) × (digit_value a ≡ 13) × IsHexDigit b × (12 ≤ digit_value b) × (u ≡ 208 + digit_value b)
-LowDigits n u (a ∷ b ∷ c ∷ []) = (n ≡ 1) × (digit_value a ≡ 13) × IsHexDigit b × (12 ≤ digit_value b) × IsHexDigit c × (u ≡ (208 + digit_value b) * 16 + digit_value c)
-LowDigits n u (a ∷ b ∷ c ∷ d ∷ ds) = ⊥
-
--- the bytes after the first quote, of which the text so far is t
-abbrev pub TextStands : List ℕ → TextMode → List ℕ → Type 0
-TextStands t (Character Boundary) inner = Spelled t inner
-TextStands t (Character (Inside low high left)) inner = (text done part : List ℕ) × Spelled text done × BeginsChar part (Inside low high left) × (low ≤ high) × (t ≡ text ++ part) × (inner ≡ done ++ part)
-TextStands t Escape inner = (done : List ℕ) × Spelled t done × (inner ≡ done ++ 92 ∷ [])
-TextStands t (UnitMode n u) inner = (done digits : List ℕ) × Spelled t done × UnitDigits n u digits × (inner ≡ done ++ 92 ∷ 117 ∷ digits)
-TextStands t (AfterHigh h) inner = (done front : List ℕ) × Spelled t done × IsHigh h × IsUnit h front × (inner ≡ done ++ front)
-TextStands t (AfterHighEscape h) inner = (done front : List ℕ) × Spelled t done × IsHigh h × IsUnit h front × (inner ≡ done ++ (front ++ 92 ∷ []))
-TextStands t (Low h n u) inner = (done front digits : List ℕ) × Spelled t done × IsHigh h × IsUnit h front × LowDigits n u digits × (inner ≡ done ++ (front ++ 92 ∷ 117 ∷ digits))
+use Rattle.lg_json.specs.declared.state.TextMode.{TextMode}
+use Rattle.lg_json.specs.Reading.{Role}
 
 -- a number's digits so far
 pub record DigitsStand (Outer : List ℕ → Type 0) (negative : Bool) (n p : ℕ) (front : List ℕ) : Type 0 where

@@ -1,24 +1,22 @@
 -- What the reading comes to over the characters of a text.
-use Rattle.std.proofs.Common.{◌≡◌, ℕ, suc, ◌+◌, ◌-◌, ◌*◌, ◌%◌, ◌<◌, ◌≤◌, ◌⊎◌, Bool, true, false, cond, nat_lt, nat_le, ◌==◌, ◌&&◌, List, [], ◌∷◌, ◌++◌, length, Option, Some, None, IsSomeAnd, Result, Ok, Err, refl, sym, ap, ◌∙◌, subst, inl, inr, arith, append_assoc, append-nil, mod-eq_of_lt}
-use Rattle.std.proofs.lemmas.Bool.{cond-true, cond-false, lt-ltb, le-ltb, le-leb, lt-leb, ne_eqb, eq-eqb, and_from, and_left, and_right, cases_lt, cases_Bool, and_parts, leb-true}
+use Rattle.std.proofs.Common.{◌≡◌, ℕ, suc, ◌+◌, ◌*◌, ◌<◌, ◌≤◌, ◌⊎◌, true, false, nat_lt, nat_le, ◌==◌, List, [], ◌∷◌, ◌++◌, length, Option, Some, None, IsSomeAnd, Ok, refl, sym, ap, ◌∙◌, subst, inl, inr, arith, append_assoc, append-nil, mod-eq_of_lt}
+use Rattle.std.proofs.lemmas.Bool.{cond-true, cond-false, lt-ltb, le-ltb, le-leb, ne_eqb, and_from, cases_lt, cases_Bool, and_parts, leb-true}
 use Rattle.std.proofs.lemmas.Str.{encode_ascii}
 use Rattle.std.specs.Char.{IsScalar, encode_utf8, digit_value}
-use lib.Utf8.{scalar, encodes}
+use lib.Utf8.{encodes}
 use Rattle.lg_containers.specs.Utf8.{utf8_step, lead_state, Finishes}
-use Rattle.lg_containers.specs.Utf8Laws.{LeadOf, lead_of, lead_ascii}
+use Rattle.lg_containers.specs.Utf8Laws.{lead_of, lead_ascii}
 use Rattle.lg_containers.specs.TextLaws.{step_at_boundary}
 use Rattle.lg_containers.specs.declared.utf8.Utf8State.{Utf8State}
 use Rattle.lg_containers.specs.declared.utf8.Utf8State.TheVariants.{Boundary, Inside}
-use Rattle.lg_json.specs.Tree.{Tree}
-use Rattle.lg_json.specs.Grammar.{IsHexDigit, hex_number, IsUnit, IsHigh, IsLow, pair, IsShort, IsChar, AreChars}
+use Rattle.lg_json.specs.Grammar.{hex_number, IsHigh, IsLow, IsShort, IsChar, AreChars}
 use Rattle.lg_json.specs.Grammar.IsShort.{quote, backslash, slash, backspace, form_feed, line_feed, carriage_return, tab}
 use Rattle.lg_json.specs.Grammar.IsChar.{unescaped, short, unit, surrogates}
-use Rattle.lg_json.specs.Reading.{Frame, Mode, State, at, TextState, hex_more, joined, character_step, unit_step, low_step, text_step, closes, is_high, step, and_then, reads}
+use Rattle.lg_json.specs.Reading.{Frame, at, TextState, hex_more, joined, character_step, unit_step, low_step, text_step, closes, is_high, step, reads}
 use Rattle.lg_json.specs.Reading.Mode.{in_text}
-use Rattle.lg_json.specs.declared.json.JsonFault.{JsonFault}
-use Rattle.lg_json.specs.declared.mode.Role.{Role}
-use Rattle.lg_json.specs.declared.mode.TextMode.{TextMode}
-use Rattle.lg_json.specs.declared.mode.TextMode.TheVariants.{Character, Escape, Unit as UnitMode, AfterHigh, AfterHighEscape, Low}
+use Rattle.lg_json.specs.Reading.{Role}
+use Rattle.lg_json.specs.declared.state.TextMode.{TextMode}
+use Rattle.lg_json.specs.declared.state.TextMode.TheVariants.{Character, Escape, Unit as UnitMode, AfterHigh, AfterHighEscape, Low}
 use Rattle.lg_json.proofs.Reaches.{reads_one, reads_at}
 use Rattle.lg_json.proofs.Texts.{joined_is}
 
@@ -38,7 +36,7 @@ runs_then (x ∷ xs) b t u v m k l h g = (h.0, go (text_step t m x) h.1 (λ s q.
     go None q f = absurd q
     go (Some s) q f = f s q
 
-one_step : (i : ℕ) (fs : List Frame) (role : Role) (t : List ℕ) (m : TextMode) (b : ℕ) (s : TextState) → closes m b ≡ false → text_step t m b ≡ Some s → step i fs (in_text role t m) b ≡ Ok (at fs (in_text role s.0 s.1))
+pub one_step : (i : ℕ) (fs : List Frame) (role : Role) (t : List ℕ) (m : TextMode) (b : ℕ) (s : TextState) → closes m b ≡ false → text_step t m b ≡ Some s → step i fs (in_text role t m) b ≡ Ok (at fs (in_text role s.0 s.1))
 unfolding step
 one_step i fs role t m b s open_still e = cond-false (closes m b) _ _ open_still ∙ rw e refl
 
@@ -53,7 +51,7 @@ text_reads (b ∷ bs) rest i j fs role t u m k h e = go (text_step t m b) refl h
     go (Some s) f q ih = reads_one i fs (in_text role t m) b (bs ++ rest) (at fs (in_text role s.0 s.1)) (one_step i fs role t m b s h.0 f) ∙ ih s q
 
 -- a character that stands for itself
-ascii_step : (t : List ℕ) (c : ℕ) → 32 ≤ c → c < 128 → (c ≡ 92 → ⊥) → text_step t (Character Boundary) c ≡ Some (t ++ c ∷ [], Character Boundary)
+pub ascii_step : (t : List ℕ) (c : ℕ) → 32 ≤ c → c < 128 → (c ≡ 92 → ⊥) → text_step t (Character Boundary) c ≡ Some (t ++ c ∷ [], Character Boundary)
 unfolding text_step
 ascii_step t c low high ne =
     cond-false (c == 92) _ _ (ne_eqb c 92 ne) ∙ cond-false (nat_lt c 32) _ _ (le-ltb c 32 low) ∙ ap (character_step t c) (step_at_boundary c ∙ lead_ascii c high)
@@ -76,9 +74,9 @@ part_runs (b ∷ bs) t (Inside low high left) h = go (utf8_step (Inside low high
     go None e q ih = absurd q
     go (Some next) e q ih =
         runs_one t (Character (Inside low high left)) b bs (t ++ b ∷ bs) (Character Boundary) (t ++ b ∷ [], Character next) refl (inside_step t b low high left next e)
-          (subst (λ (l : List ℕ). TextRuns (t ++ b ∷ []) (Character next) bs l (Character Boundary)) (append_assoc t (b ∷ []) bs) (ih next q))
+        (subst (λ (l : List ℕ). TextRuns (t ++ b ∷ []) (Character next) bs l (Character Boundary)) (append_assoc t (b ∷ []) bs) (ih next q))
 
-ne_test : (b k : ℕ) → (b ≡ k → ⊥) → (b == k) ≡ false
+pub ne_test : (b k : ℕ) → (b ≡ k → ⊥) → (b == k) ≡ false
 ne_test b k h = ne_eqb b k h
 
 plain_runs : (t : List ℕ) (c : ℕ) → IsScalar c → 32 ≤ c → (c ≡ 34 → ⊥) → (c ≡ 92 → ⊥) → TextRuns t (Character Boundary) (encode_utf8 c) (t ++ encode_utf8 c) (Character Boundary)
@@ -88,10 +86,10 @@ plain_runs t c ok low ne_quote ne_backslash = elim (cases_lt c 128) [
   | inr large ↦
       let l = lead_of c ok large in
       subst (λ (k : List ℕ). TextRuns t (Character Boundary) k (t ++ k) (Character Boundary)) (sym l.bytes)
-        (runs_one t (Character Boundary) l.first l.others (t ++ l.first ∷ l.others) (Character Boundary) (t ++ l.first ∷ [], Character (Inside l.low l.high l.left))
-          (let above : 128 ≤ l.first = l.above in ne_test l.first 34 (λ e. omega arith)) (lead_step t l.first l.low l.high l.left l.above l.state)
-          (subst (λ (k : List ℕ). TextRuns (t ++ l.first ∷ []) (Character (Inside l.low l.high l.left)) l.others k (Character Boundary)) (append_assoc t (l.first ∷ []) l.others)
-            (part_runs l.others (t ++ l.first ∷ []) (Inside l.low l.high l.left) l.finishes)))
+      (runs_one t (Character Boundary) l.first l.others (t ++ l.first ∷ l.others) (Character Boundary) (t ++ l.first ∷ [], Character (Inside l.low l.high l.left))
+      (let above : 128 ≤ l.first = l.above in ne_test l.first 34 (λ e. omega arith)) (lead_step t l.first l.low l.high l.left l.above l.state)
+      (subst (λ (k : List ℕ). TextRuns (t ++ l.first ∷ []) (Character (Inside l.low l.high l.left)) l.others k (Character Boundary)) (append_assoc t (l.first ∷ []) l.others)
+      (part_runs l.others (t ++ l.first ∷ []) (Inside l.low l.high l.left) l.finishes)))
 ]
 
 -- an escape by one letter
@@ -169,8 +167,8 @@ high_test u h = elim (cases_Bool (is_high u)) [
 unit_runs : (t : List ℕ) (u a b c d : ℕ) → digit_value a < 16 → digit_value b < 16 → digit_value c < 16 → digit_value d < 16 → u ≡ hex_number a b c d → (IsHigh u → ⊥) → (IsLow u → ⊥) → TextRuns t (Character Boundary) (92 ∷ 117 ∷ a ∷ b ∷ c ∷ d ∷ []) (t ++ encode_utf8 u) (Character Boundary)
 unit_runs t u a b c d ha hb hc hd e high low =
     unit_starts t [] (t ++ encode_utf8 u) (Character Boundary) a b c d ha hb hc hd (no_low a b c d u ha hb hc hd e low)
-      (t ++ encode_utf8 (hex_number a b c d), Character Boundary) (cond-false (is_high (hex_number a b c d)) _ _ (subst (λ k. is_high k ≡ false) e (high_test u high)))
-      (ap (λ k. t ++ encode_utf8 k) (sym e), refl)
+    (t ++ encode_utf8 (hex_number a b c d), Character Boundary) (cond-false (is_high (hex_number a b c d)) _ _ (subst (λ k. is_high k ≡ false) e (high_test u high)))
+    (ap (λ k. t ++ encode_utf8 k) (sym e), refl)
 
 -- the escape of a low surrogate, after that of a high one
 after_high_step : (t : List ℕ) (h : ℕ) → text_step t (AfterHigh h) 92 ≡ Some (t, AfterHighEscape h)
@@ -211,7 +209,7 @@ high_runs t h a b c d ha hb hc hd e high =
     let h1 : h ≤ 56319 = high.1 in
     let test : is_high (hex_number a b c d) ≡ true = subst (λ k. is_high k ≡ true) e (and_from (nat_le 55296 h) (nat_le h 56319) (le-leb 55296 h h0) (le-leb h 56319 h1)) in
     unit_starts t [] t (AfterHigh h) a b c d ha hb hc hd (no_low a b c d h ha hb hc hd e (λ l. let l0 = l.0 in omega arith))
-      (t, AfterHigh (hex_number a b c d)) (cond-true (is_high (hex_number a b c d)) _ _ test) (refl, ap AfterHigh (sym e))
+    (t, AfterHigh (hex_number a b c d)) (cond-true (is_high (hex_number a b c d)) _ _ test) (refl, ap AfterHigh (sym e))
 
 pub char_runs : (t : List ℕ) (c : ℕ) (bytes : List ℕ) → IsChar c bytes → TextRuns t (Character Boundary) bytes (t ++ encode_utf8 c) (Character Boundary)
 char_runs t c bytes (unescaped _ _ ok low ne_quote ne_backslash e) = subst (λ (l : List ℕ). TextRuns t (Character Boundary) l (t ++ encode_utf8 c) (Character Boundary)) (sym e) (plain_runs t c ok low ne_quote ne_backslash)
@@ -220,16 +218,16 @@ char_runs t c bytes (unit _ _ u high low) =
     subst (λ (l : List ℕ). TextRuns t (Character Boundary) l (t ++ encode_utf8 c) (Character Boundary)) (sym u.parts) (unit_runs t c u.a u.b u.c u.d u.a_is_digit u.b_is_digit u.c_is_digit u.d_is_digit u.value high low)
 char_runs t c bytes (surrogates _ h l front back _ high low uh ul e f) =
     subst (λ (k : List ℕ). TextRuns t (Character Boundary) k (t ++ encode_utf8 c) (Character Boundary)) (sym f)
-      (runs_then front back t t (t ++ encode_utf8 c) (Character Boundary) (AfterHigh h) (Character Boundary)
-        (subst (λ (k : List ℕ). TextRuns t (Character Boundary) k t (AfterHigh h)) (sym uh.parts) (high_runs t h uh.a uh.b uh.c uh.d uh.a_is_digit uh.b_is_digit uh.c_is_digit uh.d_is_digit uh.value high))
-        (subst (λ (k : List ℕ). TextRuns t (AfterHigh h) k (t ++ encode_utf8 c) (Character Boundary)) (sym ul.parts)
-          (subst (λ k. TextRuns t (AfterHigh h) (92 ∷ 117 ∷ ul.a ∷ ul.b ∷ ul.c ∷ ul.d ∷ []) (t ++ encode_utf8 k) (Character Boundary)) (joined_is h l high low ∙ sym e)
-            (low_runs t h l ul.a ul.b ul.c ul.d ul.a_is_digit ul.b_is_digit ul.c_is_digit ul.d_is_digit ul.value low))))
+    (runs_then front back t t (t ++ encode_utf8 c) (Character Boundary) (AfterHigh h) (Character Boundary)
+    (subst (λ (k : List ℕ). TextRuns t (Character Boundary) k t (AfterHigh h)) (sym uh.parts) (high_runs t h uh.a uh.b uh.c uh.d uh.a_is_digit uh.b_is_digit uh.c_is_digit uh.d_is_digit uh.value high))
+    (subst (λ (k : List ℕ). TextRuns t (AfterHigh h) k (t ++ encode_utf8 c) (Character Boundary)) (sym ul.parts)
+    (subst (λ k. TextRuns t (AfterHigh h) (92 ∷ 117 ∷ ul.a ∷ ul.b ∷ ul.c ∷ ul.d ∷ []) (t ++ encode_utf8 k) (Character Boundary)) (joined_is h l high low ∙ sym e)
+    (low_runs t h l ul.a ul.b ul.c ul.d ul.a_is_digit ul.b_is_digit ul.c_is_digit ul.d_is_digit ul.value low))))
 
 pub chars_run : (cs : List ℕ) (t inner : List ℕ) → AreChars cs inner → TextRuns t (Character Boundary) inner (t ++ encodes cs) (Character Boundary)
 chars_run [] t inner h = subst (λ (l : List ℕ). TextRuns t (Character Boundary) l (t ++ []) (Character Boundary)) (sym h) (sym (append-nil t), refl)
 chars_run (c ∷ cs) t inner h =
     subst (λ (l : List ℕ). TextRuns t (Character Boundary) l (t ++ (encode_utf8 c ++ encodes cs)) (Character Boundary)) (sym h.4)
-      (runs_then h.0 h.1 t (t ++ encode_utf8 c) (t ++ (encode_utf8 c ++ encodes cs)) (Character Boundary) (Character Boundary) (Character Boundary)
-        (char_runs t c h.0 h.2)
-        (subst (λ (l : List ℕ). TextRuns (t ++ encode_utf8 c) (Character Boundary) h.1 l (Character Boundary)) (append_assoc t (encode_utf8 c) (encodes cs)) (chars_run cs (t ++ encode_utf8 c) h.1 h.3)))
+    (runs_then h.0 h.1 t (t ++ encode_utf8 c) (t ++ (encode_utf8 c ++ encodes cs)) (Character Boundary) (Character Boundary) (Character Boundary)
+    (char_runs t c h.0 h.2)
+    (subst (λ (l : List ℕ). TextRuns (t ++ encode_utf8 c) (Character Boundary) h.1 l (Character Boundary)) (append_assoc t (encode_utf8 c) (encodes cs)) (chars_run cs (t ++ encode_utf8 c) h.1 h.3)))

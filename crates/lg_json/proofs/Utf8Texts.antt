@@ -1,20 +1,11 @@
 -- The text of whole characters is UTF-8.
-use Rattle.std.proofs.Common.{◌≡◌, ℕ, suc, ◌+◌, ◌-◌, ◌*◌, ◌<◌, ◌≤◌, ◌⊎◌, Bool, true, false, ◌&&◌, List, [], ◌∷◌, ◌++◌, IsUtf8, refl, sym, ap, ◌∙◌, subst, inl, inr, arith}
-use Rattle.std.proofs.lemmas.Bool.{and_from, cases_lt, le-ltb, lt-ltb, le-leb}
-use Rattle.std.specs.Char.{digit_value}
-use lib.Utf8.{scalar, scalars, encodes, low_scalar}
-use Rattle.lg_containers.specs.declared.utf8.Utf8State.TheVariants.{Boundary, Inside}
-use Rattle.lg_json.specs.Grammar.{IsHigh, IsLow, pair, IsShort, IsChar, AreChars}
+use Rattle.std.proofs.Common.{◌≡◌, ℕ, ◌<◌, ◌≤◌, true, List, [], ◌∷◌, IsUtf8, refl, sym, inl, inr, arith}
+use Rattle.std.proofs.lemmas.Bool.{and_from, cases_lt, le-ltb, lt-ltb}
+use lib.Utf8.{scalar, scalars, low_scalar}
+use Rattle.lg_json.specs.Grammar.{IsHigh, IsLow, IsShort, IsChar, AreChars}
 use Rattle.lg_json.specs.Grammar.IsShort.{quote, backslash, slash, backspace, form_feed, line_feed, carriage_return, tab}
 use Rattle.lg_json.specs.Grammar.IsChar.{unescaped, short, unit, surrogates}
-use Rattle.lg_json.specs.Fine.{TextFine, ModeFine}
-use Rattle.lg_json.specs.Reading.{Frame, Mode}
-use Rattle.lg_json.specs.Reading.Frame.{in_list, in_object, named}
-use Rattle.lg_json.specs.Reading.Mode.{before_value, before_first, before_first_name, before_name, before_colon, in_word, after_minus, after_zero, in_digits, in_text, after_item, ended}
-use Rattle.lg_json.specs.declared.mode.Role.{Role}
-use Rattle.lg_json.specs.declared.mode.TextMode.{TextMode}
-use Rattle.lg_json.specs.declared.mode.TextMode.TheVariants.{Character, Escape, Unit as UnitMode, AfterHigh, AfterHighEscape, Low}
-use Rattle.lg_json.proofs.Standing.{Spelled, TextStands, RoleStands, Stands}
+use Rattle.lg_json.specs.Texts.{Spelled}
 
 scalar_above : (c : ℕ) → 57344 ≤ c → c < 1114112 → scalar c ≡ true
 scalar_above c low high = search (arith, le-ltb, lt-ltb)
@@ -61,34 +52,3 @@ chars_scalars (c ∷ cs) inner h = and_from (scalar c) (scalars cs) (char_scalar
 
 pub spelled_utf8 : (t inner : List ℕ) → Spelled t inner → IsUtf8 t
 spelled_utf8 t inner s = (s.chars, (chars_scalars s.chars inner s.spelled, sym s.value))
-
-text_fine : (t : List ℕ) (m : TextMode) (inner : List ℕ) → TextStands t m inner → TextFine t m
-text_fine t (Character Boundary) inner s = spelled_utf8 t inner s
-text_fine t (Character (Inside low high left)) inner s = tt
-text_fine t Escape inner s = tt
-text_fine t (UnitMode n u) inner s = tt
-text_fine t (AfterHigh h) inner s = tt
-text_fine t (AfterHighEscape h) inner s = tt
-text_fine t (Low h n u) inner s = tt
-
-role_fine : (fs : List Frame) (role : Role) (t : List ℕ) (m : TextMode) (front : List ℕ) → RoleStands fs role t m front → TextFine t m
-role_fine fs Role.Value t m front s = text_fine t m s.1 s.3
-role_fine [] (Role.Name q) t m front s = absurd s
-role_fine (in_list ts ∷ fs) (Role.Name q) t m front s = absurd s
-role_fine (named ms name ∷ fs) (Role.Name q) t m front s = absurd s
-role_fine (in_object ms ∷ fs) (Role.Name q) t m front s = text_fine t m s.1 s.4
-
--- a text that may end is UTF-8
-pub stands_fine : (fs : List Frame) (m : Mode) (front : List ℕ) → Stands fs m front → ModeFine m
-stands_fine fs (in_text role t m) front s = role_fine fs role t m front s
-stands_fine fs before_value front s = tt
-stands_fine fs before_first front s = tt
-stands_fine fs before_first_name front s = tt
-stands_fine fs before_name front s = tt
-stands_fine fs before_colon front s = tt
-stands_fine fs (in_word rest t) front s = tt
-stands_fine fs (after_minus p) front s = tt
-stands_fine fs (after_zero negative p) front s = tt
-stands_fine fs (in_digits negative n p) front s = tt
-stands_fine fs after_item front s = tt
-stands_fine fs (ended t) front s = tt

@@ -2,7 +2,7 @@
 --     Begins front            the bytes begin some JSON text
 --     BeginsFitting front     they begin one that fits: nothing that a reader refuses has come yet
 --     IsFault bytes f         f is the first fault of the bytes
-use Rattle.std.specs.Prelude.{◌≡◌, ℕ, ◌<◌, ◌≤◌, Bool, true, false, ◌⊎◌, List, [], ◌∷◌, ◌++◌, length, take, ℤ}
+use Rattle.std.specs.Prelude.{◌≡◌, ℕ, ◌<◌, ◌≤◌, true, false, ◌⊎◌, List, [], ◌∷◌, ◌++◌, length, take, ℤ}
 use Rattle.lg_json.specs.Tree.{Tree, Entry, entries}
 use Rattle.lg_json.specs.Grammar.{IsWhole, IsString, IsJson, InRange, IsNew, Fits}
 use Rattle.lg_json.specs.Reading.{Frame, is_digit, begins_part}

@@ -2,6 +2,7 @@ pub mod Tree
 pub mod Grammar
 pub mod Reading
 pub mod View
-pub mod Fine
+pub mod Tokens
+pub mod Texts
 pub mod Before
 pub mod Fault

@@ -6,19 +6,23 @@ use Rattle.lg_containers.specs.Utf8.{utf8_step}
 use Rattle.lg_containers.specs.declared.utf8.Utf8State.{Utf8State}
 use Rattle.lg_containers.specs.declared.utf8.Utf8State.TheVariants.{Boundary, Inside}
 use Rattle.lg_json.specs.Tree.{Tree, Entry, trees, entries}
-use Rattle.lg_json.specs.Tree.Tree.{null, truth, whole, part, text, list, members}
+use Rattle.lg_json.specs.Tree.Tree.{null, truth, whole, text, list, members}
 use Rattle.lg_json.specs.Grammar.{signed}
 use Rattle.lg_json.specs.declared.json.JsonFault.{JsonFault}
 use Rattle.lg_json.specs.declared.json.JsonFault.TheVariants.{Syntax, NotWhole, TooWide, TooDeep, Repeated}
-use Rattle.lg_json.specs.declared.mode.TextMode.{TextMode}
-use Rattle.lg_json.specs.declared.mode.TextMode.TheVariants.{Character, Escape, Unit, AfterHigh, AfterHighEscape, Low}
-use Rattle.lg_json.specs.declared.mode.Role.{Role}
+use Rattle.lg_json.specs.declared.state.TextMode.{TextMode}
+use Rattle.lg_json.specs.declared.state.TextMode.TheVariants.{Character, Escape, Unit, AfterHigh, AfterHighEscape, Low}
 
 -- a list or an object that is open; `named`: its last name has its value still to come
 pub data Frame : Type 0 where
   in_list : List Tree → Frame
   in_object : List Entry → Frame
   named : List Entry → List ℕ → Frame
+
+-- what a text is read for: a value, or a name whose first quote stands at the place
+pub data Role : Type 0 where
+  Value : Role
+  Name : ℕ → Role
 
 -- what comes next; the last number of a mode is the place of a number's first byte
 pub data Mode : Type 0 where
@@ -59,7 +63,6 @@ abbrev pub complete : List Frame → Tree → State
 complete [] t = at [] (ended t)
 complete (f ∷ fs) t = at (with_value f t ∷ fs) after_item
 
-
 -- a list or an object that begins
 abbrev pub open_frame : ℕ → List Frame → Frame → Mode → Result State JsonFault
 open_frame i fs f m = if nat_lt (length fs) 64 then Ok (at (f ∷ fs) m) else Err (TooDeep i)
@@ -77,18 +80,19 @@ begin i fs b =
     (if b == 48 then Ok (at fs (after_zero false i)) else
     (if is_digit b then Ok (at fs (in_digits false (b - 48) i)) else Err (Syntax i)))))))))
 
--- after an item or a member
+-- after an item or a member: a comma, or the end of the list or the object
+abbrev pub follow_on : ℕ → List Frame → ℕ → Result State JsonFault
+follow_on i [] b = Err (Syntax i)
+follow_on i (in_list ts ∷ fs) b =
+    if b == 44 then Ok (at (in_list ts ∷ fs) before_value) else
+    (if b == 93 then Ok (complete fs (list (trees ts))) else Err (Syntax i))
+follow_on i (in_object ms ∷ fs) b =
+    if b == 44 then Ok (at (in_object ms ∷ fs) before_name) else
+    (if b == 125 then Ok (complete fs (members (entries ms))) else Err (Syntax i))
+follow_on i (named ms name ∷ fs) b = Err (Syntax i)
+
 abbrev pub follow : ℕ → List Frame → ℕ → Result State JsonFault
-follow i [] b = Err (Syntax i)
-follow i (in_list ts ∷ fs) b =
-    if is_blank b then Ok (at (in_list ts ∷ fs) after_item) else
-    (if b == 44 then Ok (at (in_list ts ∷ fs) before_value) else
-    (if b == 93 then Ok (complete fs (list (trees ts))) else Err (Syntax i)))
-follow i (in_object ms ∷ fs) b =
-    if is_blank b then Ok (at (in_object ms ∷ fs) after_item) else
-    (if b == 44 then Ok (at (in_object ms ∷ fs) before_name) else
-    (if b == 125 then Ok (complete fs (members (entries ms))) else Err (Syntax i)))
-follow i (named ms name ∷ fs) b = Err (Syntax i)
+follow i fs b = if is_blank b then Ok (at fs after_item) else follow_on i fs b
 
 -- after the value t, which is complete
 unfoldable pub after : ℕ → List Frame → Tree → ℕ → Result State JsonFault

@@ -1,14 +1,14 @@
 -- What the reader's state and answers stand for.
 use Rattle.std.specs.Prelude.{◌≡◌, ℕ, List, Option, Some, None, map, Result, Ok, Err}
-use Rattle.lg_json.specs.Tree.{Tree, Entry, tree, entry}
+use Rattle.lg_json.specs.Tree.{Entry, tree, entry}
 use Rattle.lg_json.specs.declared.json.Member.{Member}
 use Rattle.lg_json.specs.Reading as machine
 use Rattle.lg_json.specs.declared.json.JsonFault.{JsonFault}
 use Rattle.lg_json.specs.declared.json.JsonFault.TheVariants.{Syntax, NotWhole, TooWide, TooDeep, Repeated, NoMemory}
-use Rattle.lg_json.specs.declared.mode.Frame.{Frame}
-use Rattle.lg_json.specs.declared.mode.Mode.{Mode}
-use Rattle.lg_json.specs.declared.mode.State.{State}
-use Rattle.lg_json.specs.declared.mode.TextMode.{TextMode}
+use Rattle.lg_json.specs.declared.state.Frame.{Frame}
+use Rattle.lg_json.specs.declared.state.Next.{Next}
+use Rattle.lg_json.specs.declared.state.State.{State}
+use Rattle.lg_json.specs.declared.state.TextMode.{TextMode}
 
 abbrev pub frame_view : Frame → machine.Frame
 frame_view (Frame.List items) = machine.Frame.in_list (map tree items)
@@ -18,22 +18,17 @@ frame_view (Frame.Named ms name) = machine.Frame.named (map entry ms) name
 abbrev pub frames_view : List Frame → List machine.Frame
 frames_view fs = map frame_view fs
 
-abbrev pub mode_view : Mode → machine.Mode
-mode_view Mode.BeforeValue = machine.Mode.before_value
-mode_view Mode.BeforeFirst = machine.Mode.before_first
-mode_view Mode.BeforeFirstName = machine.Mode.before_first_name
-mode_view Mode.BeforeName = machine.Mode.before_name
-mode_view Mode.BeforeColon = machine.Mode.before_colon
-mode_view (Mode.InWord rest value) = machine.Mode.in_word rest.now (tree value)
-mode_view (Mode.AfterMinus p) = machine.Mode.after_minus p
-mode_view (Mode.AfterZero negative p) = machine.Mode.after_zero negative p
-mode_view (Mode.InDigits negative n p) = machine.Mode.in_digits negative n p
-mode_view (Mode.InText role text m) = machine.Mode.in_text role text.items m
-mode_view Mode.AfterItem = machine.Mode.after_item
-mode_view (Mode.Ended value) = machine.Mode.ended (tree value)
+abbrev pub next_view : Next → machine.Mode
+next_view Next.Value = machine.Mode.before_value
+next_view Next.First = machine.Mode.before_first
+next_view Next.FirstName = machine.Mode.before_first_name
+next_view Next.Name = machine.Mode.before_name
+next_view Next.Colon = machine.Mode.before_colon
+next_view Next.Comma = machine.Mode.after_item
+next_view (Next.End value) = machine.Mode.ended (tree value)
 
 abbrev pub view : State → machine.State
-view s = machine.at (frames_view s.frames) (mode_view s.mode)
+view s = machine.at (frames_view s.frames) (next_view s.next)
 
 -- the answer is this fault, or want of memory, of which nothing is said
 abbrev pub Fails : {A : Type 0} → JsonFault → Result A JsonFault → Type 0
@@ -56,3 +51,14 @@ with_text t (Some m) = Some (t, m)
 
 abbrev pub entries_view : List Member → List Entry
 entries_view ms = map entry ms
+
+-- what comes after a comma in what is open
+abbrev pub comma_mode : machine.Frame → Option machine.Mode
+comma_mode (machine.Frame.in_list ts) = Some machine.Mode.before_value
+comma_mode (machine.Frame.in_object ms) = Some machine.Mode.before_name
+comma_mode (machine.Frame.named ms name) = None
+
+-- a state with a place
+abbrev pub placed : Result State JsonFault → ℕ → Result (State × ℕ) JsonFault
+placed (Ok s) p = Ok (s, p)
+placed (Err f) p = Err f

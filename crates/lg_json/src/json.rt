@@ -1,6 +1,6 @@
-use std::alloc::AllocError;
 use lg_containers::Text;
 use sqlite_items::Items;
+use std::alloc::AllocError;
 
 /// A JSON value whose numbers are whole.
 #[cycle(json)]
@@ -29,7 +29,7 @@ pub type JsonList = Items<Json>;
 pub type MemberList = Items<Member>;
 
 /// Why a text isn't read. A place counts bytes from 0.
-#[derive(Debug, Drop)]
+#[derive(Debug, PartialEq, Eq, Drop)]
 pub enum JsonFault {
     /// The bytes are no JSON text: the place is the length of the longest prefix that begins one.
     Syntax { place: usize },

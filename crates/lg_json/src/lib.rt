@@ -2,15 +2,22 @@
 //! at most 64 lists and objects open at once.
 #![tactic(auto)]
 
+mod blanks;
+mod copy;
 mod json;
-mod mode;
-mod stack;
-mod step;
 mod number;
 mod open;
 mod reader;
+mod stack;
+mod state;
+mod step;
+mod text;
 mod text_step;
+mod word;
 
 pub use json::{Json, JsonFault, JsonList, Member, MemberList};
 pub use reader::read;
 pub use std::alloc::AllocError as NoMemory;
+
+#[cfg(test)]
+mod tests;

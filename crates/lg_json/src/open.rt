@@ -1,21 +1,21 @@
 //! What is open: lists, objects, and the values that stand in them.
-ghost use Rattle.std.specs.Prelude.{◌≡◌, IfOk, Ok, IsUtf8, bytes_eq};
+ghost use Rattle.std.specs.Prelude.{◌≡◌, ◌⊎◌, IfOk, Ok, bytes_eq, option_map};
 ghost use Rattle.lg_json.specs.Reading as machine;
 ghost use Rattle.lg_json.specs.Tree.{tree};
-ghost use Rattle.lg_json.specs.View.{Gives, view, frame_view, frames_view, mode_view, entries_view};
+ghost use Rattle.lg_json.specs.View.{Gives, view, frame_view, frames_view, next_view, entries_view, comma_mode};
 
 use crate::json::{Json, JsonFault, Member};
-use crate::mode::{Frame, Mode, Role, State};
 use crate::stack::Stack;
+use crate::state::{Frame, Next, State};
 use lg_containers::Text;
-use sqlite_items::Items;
+use sqlite_items::{Boxed, Items};
 use std::alloc::{AllocError, Global};
 
 /// The most lists and objects that are open at once.
 const MOST_OPEN: usize = 64;
 
 /// The frame with a value where one was to come.
-pub fn with_value(frame: Frame, value: Json) -> Result<Frame, AllocError>
+fn with_value(frame: Frame, value: Json) -> Result<Frame, AllocError>
     ensures { IfOk result (λ f. frame_view f ≡ machine.with_value (frame_view frame) (tree value)) }
 {
     match frame {
@@ -38,17 +38,34 @@ pub fn complete(alloc: Global, frames: Stack<Frame>, value: Json) -> Result<Stat
     let Some((top, frames)) = frames.split() else {
         return Ok(State {
             frames: Stack::new(alloc),
-            mode: Mode::Ended(value),
+            next: Next::End(Boxed::new(alloc, value)?),
         });
     };
     let frames = frames.with(with_value(top, value)?)?;
     Ok(State {
         frames,
-        mode: Mode::AfterItem,
+        next: Next::Comma,
     })
 }
 
-/// The state after a list or an object that ends with no item.
+/// The state after `[` or `{` at `place`.
+pub fn open_frame(
+    place: usize,
+    frames: Stack<Frame>,
+    frame: Frame,
+    next: Next,
+) -> Result<State, JsonFault>
+    ensures { Gives view result (machine.open_frame place (frames_view frames) (frame_view frame) (next_view next)) }
+{
+    if frames.len() < MOST_OPEN {
+        let frames = frames.with(frame)?;
+        Ok(State { frames, next })
+    } else {
+        Err(JsonFault::TooDeep { place })
+    }
+}
+
+/// The state after a list or an object that ends at `place` with no item.
 pub fn close_empty(
     alloc: Global,
     place: usize,
@@ -63,20 +80,68 @@ pub fn close_empty(
     complete(alloc, frames, value)
 }
 
-/// The state after `[` or `{`.
-pub fn open_frame(
+/// The state after `]` or `}` at `place`, the end of a list or of an object.
+fn close(alloc: Global, place: usize, frames: Stack<Frame>, byte: u8) -> Result<State, JsonFault>
+    requires { (byte ≡ 93) ⊎ (byte ≡ 125) }
+    ensures { Gives view result (machine.follow_on place (frames_view frames) byte) }
+{
+    let Some((top, frames)) = frames.split() else {
+        return Err(JsonFault::Syntax { place });
+    };
+    match top {
+        Frame::List(items) => {
+            if byte == b']' {
+                return complete(alloc, frames, Json::List(items));
+            }
+            Err(JsonFault::Syntax { place })
+        }
+        Frame::Object(members) => {
+            if byte == b'}' {
+                return complete(alloc, frames, Json::Members(members));
+            }
+            Err(JsonFault::Syntax { place })
+        }
+        Frame::Named(_, _) => Err(JsonFault::Syntax { place }),
+    }
+}
+
+/// The state after a byte at `place`, no blank, that follows an item or a member.
+pub fn follow_on(
+    alloc: Global,
     place: usize,
     frames: Stack<Frame>,
-    frame: Frame,
-    mode: Mode,
+    byte: u8,
 ) -> Result<State, JsonFault>
-    ensures { Gives view result (machine.open_frame place (frames_view frames) (frame_view frame) (mode_view mode)) }
+    ensures { Gives view result (machine.follow_on place (frames_view frames) byte) }
 {
-    if frames.len() < MOST_OPEN {
-        let frames = frames.with(frame)?;
-        Ok(State { frames, mode })
-    } else {
-        Err(JsonFault::TooDeep { place })
+    match byte {
+        b',' => after_comma(place, frames),
+        b']' | b'}' => close(alloc, place, frames, byte),
+        _ => Err(JsonFault::Syntax { place }),
+    }
+}
+
+/// What comes after a comma in what is open.
+fn next_after_comma(top: &Frame) -> Option<Next>
+    ensures { option_map next_view result ≡ comma_mode (frame_view top.now) }
+{
+    match top {
+        Frame::List(_) => Some(Next::Value),
+        Frame::Object(_) => Some(Next::Name),
+        Frame::Named(_, _) => None,
+    }
+}
+
+/// The state after a comma at `place`.
+fn after_comma(place: usize, frames: Stack<Frame>) -> Result<State, JsonFault>
+    ensures { Gives view result (machine.follow_on place (frames_view frames) 44) }
+{
+    let Some(top) = frames.top() else {
+        return Err(JsonFault::Syntax { place });
+    };
+    match next_after_comma(top) {
+        Some(next) => Ok(State { frames, next }),
+        None => Err(JsonFault::Syntax { place }),
     }
 }
 
@@ -98,8 +163,8 @@ fn has_name(name: &[u8], members: &[Member]) -> bool
     false
 }
 
-/// The state after a member's name, which was quoted from `quote` on.
-fn with_name(
+/// The state after a member's name, which was quoted from `quote` on and ended at `place`.
+pub fn with_name(
     place: usize,
     quote: usize,
     frames: Stack<Frame>,
@@ -118,27 +183,9 @@ fn with_name(
             let frames = frames.with(Frame::Named(members, name))?;
             Ok(State {
                 frames,
-                mode: Mode::BeforeColon,
+                next: Next::Colon,
             })
         }
         _ => Err(JsonFault::Syntax { place }),
-    }
-}
-
-/// The state after a text's closing quote.
-pub fn end_text(
-    alloc: Global,
-    place: usize,
-    frames: Stack<Frame>,
-    role: Role,
-    text: Vec<u8>,
-) -> Result<State, JsonFault>
-    requires { IsUtf8 text.items }
-    ensures { Gives view result (machine.end_text place (frames_view frames) role text.items) }
-{
-    let text = Text::from_vec(text);
-    match role {
-        Role::Value => complete(alloc, frames, Json::Text(text)),
-        Role::Name(quote) => with_name(place, quote, frames, text),
     }
 }

@@ -1,4 +1,4 @@
-ghost use Rattle.std.specs.Prelude.{◌≡◌, [], ◌∷◌, length, IfOk, MatchOption};
+ghost use Rattle.std.specs.Prelude.{◌≡◌, [], ◌∷◌, length, slice_get, IfOk, MatchOption, option_copied};
 
 use std::alloc::{AllocError, Global};
 use std::marker::Model;
@@ -34,10 +34,18 @@ impl<T> Stack<T> {
     {
         self.from_bottom.len()
     }
+
+    /// The item on top.
+    pub fn top(&self) -> Option<&T>
+        ensures { option_copied result ≡ slice_get self.now 0 }
+    {
+        self.from_bottom.last()
+    }
 }
 
 impl<T: Drop> Stack<T> {
     /// The top, and what is below it.
+    #[inline(always)]
     pub fn split(self) -> Option<(T, Stack<T>)>
         ensures { MatchOption result (self ≡ []) (λ p. self ≡ p.0 ∷ p.1) }
     {
@@ -46,6 +54,7 @@ impl<T: Drop> Stack<T> {
         Some((top, Stack { from_bottom }))
     }
 
+    #[inline(always)]
     pub fn with(self, top: T) -> Result<Stack<T>, AllocError>
         ensures { IfOk result (λ s. s ≡ top ∷ self) }
     {

@@ -1,450 +1,301 @@
-//! One more byte.
-ghost use Rattle.std.specs.Prelude.{◌≡◌, ◌==◌, if◌then◌else◌, [], ◌∷◌, map, Ok, Err};
-ghost use Rattle.lg_json.specs.Fine.{TextFine, ModeFine};
+//! One step of the reading: a value that has no part, a name, or one of `[ ] { } : ,`.
+ghost use Rattle.std.specs.Prelude.{◌≡◌, ◌+◌, ◌<◌, ◌≤◌, Ok, false, length, drop, slice_index, List, IsTrue, ◌↔◌};
 ghost use Rattle.lg_json.specs.Reading as machine;
-ghost use Rattle.lg_json.specs.Reading.Frame.{in_list, in_object};
-ghost use Rattle.lg_json.specs.Tree.{tree, entry};
-ghost use Rattle.lg_json.specs.declared.json.JsonFault.TheVariants.{Syntax};
-ghost use Rattle.lg_json.specs.View.{Gives, view, frames_view, mode_view};
+ghost use Rattle.lg_json.specs.Tokens.{Moves, IsNumberByte, IsOtherByte, begins};
+ghost use Rattle.lg_json.specs.Tree.{tree};
+ghost use Rattle.lg_json.specs.View.{view, frame_view, frames_view, next_view, placed};
+ghost use Rattle.lg_json.specs.declared.state.TextMode.TheVariants.{Character};
+ghost use Rattle.lg_containers.specs.declared.utf8.Utf8State.TheVariants.{Boundary};
 
-use crate::json::{Json, JsonFault, Member};
-use crate::mode::{Frame, Mode, Role, State, TextMode};
-use crate::number::{fits, signed_value, with_digit};
-use crate::open::{close_empty, complete, end_text, open_frame, with_value};
+use crate::blanks::skip_blanks;
+use crate::json::{Json, JsonFault};
+use crate::number::read_number;
+use crate::open::{close_empty, complete, follow_on, open_frame, with_name};
 use crate::stack::Stack;
-use crate::text_step::text_step;
-use lg_containers::utf8::Utf8State;
+use crate::state::{Frame, Next, State};
+use crate::text::read_text;
+use crate::word::read_word;
 use sqlite_items::Items;
 use std::alloc::Global;
 
-fn is_blank(byte: u8) -> bool
-    ensures { result ≡ machine.is_blank byte }
+/// The state, where there is one, with the place after what was read.
+#[inline(always)]
+fn at_place(outcome: Result<State, JsonFault>, place: usize) -> Result<(State, usize), JsonFault>
+    ensures { result ≡ placed outcome place }
 {
-    byte == b' ' || byte == b'\t' || byte == b'\n' || byte == b'\r'
+    match outcome {
+        Ok(state) => Ok((state, place)),
+        Err(fault) => Err(fault),
+    }
 }
 
-/// A value that begins.
-#[tactic(auto, unfolding(crate::specs::Reading::begin))]
-fn begin(alloc: Global, place: usize, frames: Stack<Frame>, byte: u8) -> Result<State, JsonFault>
-    ensures { Gives view result (machine.begin place (frames_view frames) byte) }
+/// A text that is a value, from its first quote on.
+#[inline(always)]
+fn begin_text(
+    alloc: Global,
+    bytes: &[u8],
+    place: usize,
+    frames: Stack<Frame>,
+) -> Result<(State, usize), JsonFault>
+    requires within { place < length bytes.now }
+    requires quote { slice_index bytes.now place ≡ 34 }
+    ensures { Moves bytes.now place (begins place (frames_view frames) (drop place bytes.now)) result }
 {
-    let mode = match byte {
-        b'"' => Mode::InText(
-            Role::Value,
-            Vec::new(alloc),
-            TextMode::Character(Utf8State::Boundary),
+    let (text, quote) = read_text(alloc, bytes, place + 1)?;
+    at_place(complete(alloc, frames, Json::Text(text)), quote + 1)
+}
+
+/// A number from its first byte on.
+#[inline(always)]
+fn begin_number(
+    alloc: Global,
+    bytes: &[u8],
+    place: usize,
+    frames: Stack<Frame>,
+) -> Result<(State, usize), JsonFault>
+    requires within { place < length bytes.now }
+    requires byte { IsNumberByte (slice_index bytes.now place) }
+    ensures { Moves bytes.now place (begins place (frames_view frames) (drop place bytes.now)) result }
+{
+    let (number, end) = read_number(bytes, place)?;
+    at_place(complete(alloc, frames, Json::Whole(number)), end)
+}
+
+/// A word whose first byte is followed by `rest`.
+fn begin_word(
+    alloc: Global,
+    bytes: &[u8],
+    place: usize,
+    frames: Stack<Frame>,
+    rest: &[u8],
+    value: Json,
+) -> Result<(State, usize), JsonFault>
+    requires within { place < length bytes.now }
+    requires some { 0 < length rest.now }
+    requires first { (fs : List machine.Frame) → machine.begin place fs (slice_index bytes.now place) ≡ Ok (machine.at fs (machine.Mode.in_word rest.now (tree value))) }
+    ensures { Moves bytes.now place (begins place (frames_view frames) (drop place bytes.now)) result }
+{
+    let end = read_word(bytes, place + 1, rest)?;
+    at_place(complete(alloc, frames, value), end)
+}
+
+/// A list or an object that begins.
+#[inline(always)]
+fn begin_frame(
+    bytes: &[u8],
+    place: usize,
+    frames: Stack<Frame>,
+    frame: Frame,
+    next: Next,
+) -> Result<(State, usize), JsonFault>
+    requires within { place < length bytes.now }
+    requires first { (fs : List machine.Frame) → machine.begin place fs (slice_index bytes.now place) ≡ machine.open_frame place fs (frame_view frame) (next_view next) }
+    ensures { Moves bytes.now place (begins place (frames_view frames) (drop place bytes.now)) result }
+{
+    at_place(open_frame(place, frames, frame, next), place + 1)
+}
+
+/// Whether a number begins with the byte.
+fn is_number_byte(byte: u8) -> bool
+    ensures { IsTrue result ↔ IsNumberByte byte }
+{
+    matches!(byte, b'-' | b'0'..=b'9')
+}
+
+/// A number, or no value.
+fn begin_other(
+    alloc: Global,
+    bytes: &[u8],
+    place: usize,
+    frames: Stack<Frame>,
+) -> Result<(State, usize), JsonFault>
+    requires within { place < length bytes.now }
+    requires other { IsOtherByte (slice_index bytes.now place) }
+    ensures { Moves bytes.now place (begins place (frames_view frames) (drop place bytes.now)) result }
+{
+    if is_number_byte(bytes[place]) {
+        begin_number(alloc, bytes, place, frames)
+    } else {
+        Err(JsonFault::Syntax { place })
+    }
+}
+
+/// A value from its first byte on.
+fn begin(
+    alloc: Global,
+    bytes: &[u8],
+    place: usize,
+    frames: Stack<Frame>,
+) -> Result<(State, usize), JsonFault>
+    requires { place < length bytes.now }
+    ensures { Moves bytes.now place (begins place (frames_view frames) (drop place bytes.now)) result }
+{
+    match bytes[place] {
+        b'"' => begin_text(alloc, bytes, place, frames),
+        b'[' => begin_frame(
+            bytes,
+            place,
+            frames,
+            Frame::List(Items::new(alloc)),
+            Next::First,
         ),
-        b'[' => {
-            return open_frame(
-                place,
-                frames,
-                Frame::List(Items::new(alloc)),
-                Mode::BeforeFirst,
-            );
-        }
-        b'{' => {
-            return open_frame(
-                place,
-                frames,
-                Frame::Object(Items::new(alloc)),
-                Mode::BeforeFirstName,
-            );
-        }
-        b'n' => Mode::InWord(b"ull", Json::Null),
-        b't' => Mode::InWord(b"rue", Json::Truth(true)),
-        b'f' => Mode::InWord(b"alse", Json::Truth(false)),
-        b'-' => Mode::AfterMinus(place),
-        b'0' => Mode::AfterZero(false, place),
-        b'1'..=b'9' => Mode::InDigits(false, (byte - b'0') as u128, place),
-        _ => return Err(JsonFault::Syntax { place }),
-    };
-    Ok(State { frames, mode })
-}
-
-/// After an item of a list.
-fn follow_item(
-    alloc: Global,
-    place: usize,
-    frames: Stack<Frame>,
-    items: Items<Json>,
-    byte: u8,
-) -> Result<State, JsonFault>
-    ensures { Gives view result (machine.follow place (in_list (map tree items) ∷ frames_view frames) byte) }
-{
-    let mode = match byte {
-        b' ' | b'\t' | b'\n' | b'\r' => Mode::AfterItem,
-        b',' => Mode::BeforeValue,
-        b']' => return complete(alloc, frames, Json::List(items)),
-        _ => return Err(JsonFault::Syntax { place }),
-    };
-    let frames = frames.with(Frame::List(items))?;
-    Ok(State { frames, mode })
-}
-
-/// After a member of an object.
-fn follow_member(
-    alloc: Global,
-    place: usize,
-    frames: Stack<Frame>,
-    members: Items<Member>,
-    byte: u8,
-) -> Result<State, JsonFault>
-    ensures { Gives view result (machine.follow place (in_object (map entry members) ∷ frames_view frames) byte) }
-{
-    let mode = match byte {
-        b' ' | b'\t' | b'\n' | b'\r' => Mode::AfterItem,
-        b',' => Mode::BeforeName,
-        b'}' => return complete(alloc, frames, Json::Members(members)),
-        _ => return Err(JsonFault::Syntax { place }),
-    };
-    let frames = frames.with(Frame::Object(members))?;
-    Ok(State { frames, mode })
-}
-
-/// After an item or a member.
-fn follow(alloc: Global, place: usize, frames: Stack<Frame>, byte: u8) -> Result<State, JsonFault>
-    ensures { Gives view result (machine.follow place (frames_view frames) byte) }
-{
-    let Some((top, frames)) = frames.split() else {
-        return Err(JsonFault::Syntax { place });
-    };
-    match top {
-        Frame::List(items) => follow_item(alloc, place, frames, items, byte),
-        Frame::Object(members) => follow_member(alloc, place, frames, members, byte),
-        Frame::Named(_, _) => Err(JsonFault::Syntax { place }),
+        b'{' => begin_frame(
+            bytes,
+            place,
+            frames,
+            Frame::Object(Items::new(alloc)),
+            Next::FirstName,
+        ),
+        b'n' => begin_word(alloc, bytes, place, frames, b"ull", Json::Null),
+        b't' => begin_word(alloc, bytes, place, frames, b"rue", Json::Truth(true)),
+        b'f' => begin_word(alloc, bytes, place, frames, b"alse", Json::Truth(false)),
+        _ => begin_other(alloc, bytes, place, frames),
     }
 }
 
-/// After a value that is complete.
-#[tactic(auto, unfolding(crate::specs::Reading::after))]
-fn after(
+/// A name from its first quote on.
+#[inline(always)]
+fn begin_name(
     alloc: Global,
+    bytes: &[u8],
     place: usize,
     frames: Stack<Frame>,
-    value: Json,
-    byte: u8,
-) -> Result<State, JsonFault>
-    ensures { Gives view result (machine.after place (frames_view frames) (tree value) byte) }
+) -> Result<(State, usize), JsonFault>
+    requires { place < length bytes.now }
+    ensures { Moves bytes.now place (machine.reads (place + 1) (machine.begin_name place (frames_view frames)) (drop (place + 1) bytes.now)) result }
 {
-    let Some((top, frames)) = frames.split() else {
-        return after_all(alloc, place, value, byte);
-    };
-    let frames = frames.with(with_value(top, value)?)?;
-    follow(alloc, place, frames, byte)
+    let (name, quote) = read_text(alloc, bytes, place + 1)?;
+    at_place(with_name(quote, place, frames, name), quote + 1)
 }
 
-/// After the whole value.
-fn after_all(alloc: Global, place: usize, value: Json, byte: u8) -> Result<State, JsonFault>
-    ensures { Gives view result (if machine.is_blank byte then Ok (machine.at [] (machine.Mode.ended (tree value))) else Err (Syntax place)) }
+/// A list's first item, or its end.
+#[inline(always)]
+fn step_first(
+    alloc: Global,
+    bytes: &[u8],
+    place: usize,
+    frames: Stack<Frame>,
+) -> Result<(State, usize), JsonFault>
+    requires within { place < length bytes.now }
+    requires no_blank { machine.is_blank (slice_index bytes.now place) ≡ false }
+    ensures { Moves bytes.now place (machine.reads place (machine.at (frames_view frames) machine.Mode.before_first) (drop place bytes.now)) result }
 {
-    if is_blank(byte) {
-        Ok(State {
-            frames: Stack::new(alloc),
-            mode: Mode::Ended(value),
-        })
+    if bytes[place] == b']' {
+        let value = Json::List(Items::new(alloc));
+        at_place(close_empty(alloc, place, frames, value), place + 1)
     } else {
-        Err(JsonFault::Syntax { place })
+        begin(alloc, bytes, place, frames)
     }
 }
 
-/// A number that ends before the byte.
-#[tactic(auto, unfolding(crate::specs::Reading::end_number))]
-fn end_number(
+/// An object's first name, or its end.
+#[inline(always)]
+fn step_first_name(
     alloc: Global,
+    bytes: &[u8],
     place: usize,
     frames: Stack<Frame>,
-    negative: bool,
-    number: u128,
-    first: usize,
-    byte: u8,
-) -> Result<State, JsonFault>
-    ensures { Gives view result (machine.end_number place (frames_view frames) negative number first byte) }
+) -> Result<(State, usize), JsonFault>
+    requires within { place < length bytes.now }
+    requires no_blank { machine.is_blank (slice_index bytes.now place) ≡ false }
+    ensures { Moves bytes.now place (machine.reads place (machine.at (frames_view frames) machine.Mode.before_first_name) (drop place bytes.now)) result }
 {
-    match byte {
-        b'.' | b'e' | b'E' => return Err(JsonFault::NotWhole { place: first }),
-        _ => {}
+    if bytes[place] == b'"' {
+        return begin_name(alloc, bytes, place, frames);
     }
-    if !fits(negative, number) {
-        return Err(JsonFault::TooWide { place: first });
-    }
-    let value = Json::Whole(signed_value(negative, number));
-    after(alloc, place, frames, value, byte)
-}
-
-/// In a word.
-fn in_word(
-    alloc: Global,
-    place: usize,
-    frames: Stack<Frame>,
-    rest: &'static [u8],
-    value: Json,
-    byte: u8,
-) -> Result<State, JsonFault>
-    ensures { Gives view result (machine.word_step place (frames_view frames) rest.now (tree value) byte) }
-{
-    match rest {
-        [] => Err(JsonFault::Syntax { place }),
-        [next] => {
-            if byte == *next {
-                complete(alloc, frames, value)
-            } else {
-                Err(JsonFault::Syntax { place })
-            }
-        }
-        [next, left @ ..] => {
-            if byte == *next {
-                Ok(State {
-                    frames,
-                    mode: Mode::InWord(left, value),
-                })
-            } else {
-                Err(JsonFault::Syntax { place })
-            }
-        }
-    }
-}
-
-/// In a number after its first digits.
-#[tactic(auto, unfolding(crate::specs::Reading::step))]
-fn in_digits(
-    alloc: Global,
-    place: usize,
-    frames: Stack<Frame>,
-    negative: bool,
-    number: u128,
-    first: usize,
-    byte: u8,
-) -> Result<State, JsonFault>
-    ensures { Gives view result (machine.step place (frames_view frames) (machine.Mode.in_digits negative number first) byte) }
-{
-    match byte {
-        b'0'..=b'9' => Ok(State {
-            frames,
-            mode: Mode::InDigits(negative, with_digit(number, byte - b'0'), first),
-        }),
-        _ => end_number(alloc, place, frames, negative, number, first, byte),
-    }
-}
-
-/// In a text.
-#[tactic(auto, unfolding(crate::specs::Reading::step))]
-fn in_text(
-    alloc: Global,
-    place: usize,
-    frames: Stack<Frame>,
-    role: Role,
-    mut text: Vec<u8>,
-    mode: TextMode,
-    byte: u8,
-) -> Result<State, JsonFault>
-    requires { TextFine text.items mode }
-    ensures { Gives view result (machine.step place (frames_view frames) (machine.Mode.in_text role text.items mode) byte) }
-{
-    if let TextMode::Character(Utf8State::Boundary) = mode {
-        if byte == b'"' {
-            return end_text(alloc, place, frames, role, text);
-        }
-    }
-    match text_step(&mut text, mode, byte)? {
-        Some(mode) => Ok(State {
-            frames,
-            mode: Mode::InText(role, text, mode),
-        }),
-        None => Err(JsonFault::Syntax { place }),
-    }
-}
-
-/// Before a member's name.
-fn before_name(
-    alloc: Global,
-    place: usize,
-    frames: Stack<Frame>,
-    mode: Mode,
-    byte: u8,
-) -> Result<State, JsonFault>
-    ensures { Gives view result (if machine.is_blank byte then Ok (machine.at (frames_view frames) (mode_view mode)) else (if byte == 34 then Ok (machine.begin_name place (frames_view frames)) else Err (Syntax place))) }
-{
-    if is_blank(byte) {
-        return Ok(State { frames, mode });
-    }
-    if byte == b'"' {
-        let mode = Mode::InText(
-            Role::Name(place),
-            Vec::new(alloc),
-            TextMode::Character(Utf8State::Boundary),
-        );
-        return Ok(State { frames, mode });
+    if bytes[place] == b'}' {
+        let value = Json::Members(Items::new(alloc));
+        return at_place(close_empty(alloc, place, frames, value), place + 1);
     }
     Err(JsonFault::Syntax { place })
 }
 
-/// Before a value.
-#[tactic(auto, unfolding(crate::specs::Reading::step))]
-fn before_value(
+/// A name after a comma.
+#[inline(always)]
+fn step_name(
     alloc: Global,
+    bytes: &[u8],
     place: usize,
     frames: Stack<Frame>,
-    byte: u8,
-) -> Result<State, JsonFault>
-    ensures { Gives view result (machine.step place (frames_view frames) machine.Mode.before_value byte) }
+) -> Result<(State, usize), JsonFault>
+    requires within { place < length bytes.now }
+    requires no_blank { machine.is_blank (slice_index bytes.now place) ≡ false }
+    ensures { Moves bytes.now place (machine.reads place (machine.at (frames_view frames) machine.Mode.before_name) (drop place bytes.now)) result }
 {
-    if is_blank(byte) {
-        return Ok(State {
-            frames,
-            mode: Mode::BeforeValue,
-        });
-    }
-    begin(alloc, place, frames, byte)
-}
-
-/// Before a list's first item.
-#[tactic(auto, unfolding(crate::specs::Reading::step))]
-fn before_first(
-    alloc: Global,
-    place: usize,
-    frames: Stack<Frame>,
-    byte: u8,
-) -> Result<State, JsonFault>
-    ensures { Gives view result (machine.step place (frames_view frames) machine.Mode.before_first byte) }
-{
-    if is_blank(byte) {
-        return Ok(State {
-            frames,
-            mode: Mode::BeforeFirst,
-        });
-    }
-    if byte == b']' {
-        return close_empty(alloc, place, frames, Json::List(Items::new(alloc)));
-    }
-    begin(alloc, place, frames, byte)
-}
-
-/// Before an object's first name.
-#[tactic(auto, unfolding(crate::specs::Reading::step))]
-fn before_first_name(
-    alloc: Global,
-    place: usize,
-    frames: Stack<Frame>,
-    byte: u8,
-) -> Result<State, JsonFault>
-    ensures { Gives view result (machine.step place (frames_view frames) machine.Mode.before_first_name byte) }
-{
-    if byte == b'}' {
-        return close_empty(alloc, place, frames, Json::Members(Items::new(alloc)));
-    }
-    before_name(alloc, place, frames, Mode::BeforeFirstName, byte)
-}
-
-/// Before the colon of a member.
-#[tactic(auto, unfolding(crate::specs::Reading::step))]
-fn before_colon(place: usize, frames: Stack<Frame>, byte: u8) -> Result<State, JsonFault>
-    ensures { Gives view result (machine.step place (frames_view frames) machine.Mode.before_colon byte) }
-{
-    if is_blank(byte) {
-        return Ok(State {
-            frames,
-            mode: Mode::BeforeColon,
-        });
-    }
-    if byte == b':' {
-        return Ok(State {
-            frames,
-            mode: Mode::BeforeValue,
-        });
+    if bytes[place] == b'"' {
+        return begin_name(alloc, bytes, place, frames);
     }
     Err(JsonFault::Syntax { place })
 }
 
-/// After a number's minus.
-#[tactic(auto, unfolding(crate::specs::Reading::step))]
-fn after_minus(
-    place: usize,
-    frames: Stack<Frame>,
-    first: usize,
-    byte: u8,
-) -> Result<State, JsonFault>
-    ensures { Gives view result (machine.step place (frames_view frames) (machine.Mode.after_minus first) byte) }
+/// The colon after a name.
+#[inline(always)]
+fn step_colon(bytes: &[u8], place: usize, frames: Stack<Frame>) -> Result<(State, usize), JsonFault>
+    requires within { place < length bytes.now }
+    requires no_blank { machine.is_blank (slice_index bytes.now place) ≡ false }
+    ensures { Moves bytes.now place (machine.reads place (machine.at (frames_view frames) machine.Mode.before_colon) (drop place bytes.now)) result }
 {
-    let mode = match byte {
-        b'0' => Mode::AfterZero(true, first),
-        b'1'..=b'9' => Mode::InDigits(true, (byte - b'0') as u128, first),
-        _ => return Err(JsonFault::Syntax { place }),
-    };
-    Ok(State { frames, mode })
+    if bytes[place] == b':' {
+        let next = Next::Value;
+        return Ok((State { frames, next }, place + 1));
+    }
+    Err(JsonFault::Syntax { place })
 }
 
-/// After the whole value, with nothing open.
-#[tactic(auto, unfolding(crate::specs::Reading::step))]
-fn ended(
+/// What follows an item or a member.
+#[inline(always)]
+fn step_comma(
+    alloc: Global,
+    bytes: &[u8],
     place: usize,
     frames: Stack<Frame>,
-    value: Json,
-    byte: u8,
-) -> Result<State, JsonFault>
-    ensures { Gives view result (machine.step place (frames_view frames) (machine.Mode.ended (tree value)) byte) }
+) -> Result<(State, usize), JsonFault>
+    requires within { place < length bytes.now }
+    requires no_blank { machine.is_blank (slice_index bytes.now place) ≡ false }
+    ensures { Moves bytes.now place (machine.reads place (machine.at (frames_view frames) machine.Mode.after_item) (drop place bytes.now)) result }
 {
-    if is_blank(byte) {
-        Ok(State {
-            frames,
-            mode: Mode::Ended(value),
-        })
+    at_place(follow_on(alloc, place, frames, bytes[place]), place + 1)
+}
+
+/// The step at a byte that is no blank.
+#[inline(always)]
+fn step_at(
+    alloc: Global,
+    bytes: &[u8],
+    place: usize,
+    state: State,
+) -> Result<(State, usize), JsonFault>
+    requires within { place < length bytes.now }
+    requires no_blank { machine.is_blank (slice_index bytes.now place) ≡ false }
+    ensures { Moves bytes.now place (machine.reads place (view state) (drop place bytes.now)) result }
+{
+    let State { frames, next } = state;
+    match next {
+        Next::Value => begin(alloc, bytes, place, frames),
+        Next::First => step_first(alloc, bytes, place, frames),
+        Next::FirstName => step_first_name(alloc, bytes, place, frames),
+        Next::Name => step_name(alloc, bytes, place, frames),
+        Next::Colon => step_colon(bytes, place, frames),
+        Next::Comma => step_comma(alloc, bytes, place, frames),
+        Next::End(_) => Err(JsonFault::Syntax { place }),
+    }
+}
+
+/// The state after one step from `place` on, and the place after it.
+#[inline(always)]
+pub fn step(
+    alloc: Global,
+    bytes: &[u8],
+    place: usize,
+    state: State,
+) -> Result<(State, usize), JsonFault>
+    requires { place < length bytes.now }
+    ensures { Moves bytes.now place (machine.reads place (view state) (drop place bytes.now)) result }
+{
+    let at = skip_blanks(bytes, place);
+    if at == bytes.len() {
+        Ok((state, at))
     } else {
-        Err(JsonFault::Syntax { place })
-    }
-}
-
-/// The state after one more byte.
-#[tactic(auto, unfolding(crate::specs::Reading::step))]
-pub fn step(alloc: Global, place: usize, state: State, byte: u8) -> Result<State, JsonFault>
-    requires { ModeFine (mode_view state.mode) }
-    ensures { Gives view result (machine.step place (frames_view state.frames) (mode_view state.mode) byte) }
-{
-    let State { frames, mode } = state;
-    match mode {
-        Mode::BeforeValue => before_value(alloc, place, frames, byte),
-        Mode::BeforeFirst => before_first(alloc, place, frames, byte),
-        Mode::BeforeFirstName => before_first_name(alloc, place, frames, byte),
-        Mode::BeforeName => before_name(alloc, place, frames, Mode::BeforeName, byte),
-        Mode::BeforeColon => before_colon(place, frames, byte),
-        Mode::InWord(rest, value) => in_word(alloc, place, frames, rest, value, byte),
-        Mode::AfterMinus(first) => after_minus(place, frames, first, byte),
-        Mode::AfterZero(negative, first) => {
-            end_number(alloc, place, frames, negative, 0, first, byte)
-        }
-        Mode::InDigits(negative, number, first) => {
-            in_digits(alloc, place, frames, negative, number, first, byte)
-        }
-        Mode::InText(role, text, mode) => in_text(alloc, place, frames, role, text, mode, byte),
-        Mode::AfterItem => follow(alloc, place, frames, byte),
-        Mode::Ended(value) => ended(place, frames, value, byte),
-    }
-}
-
-/// The value, where the bytes end and nothing is open.
-fn whole_text(place: usize, frames: Stack<Frame>, value: Json) -> Result<Json, JsonFault>
-    ensures { Gives tree result (machine.whole_text place (frames_view frames) (tree value)) }
-{
-    match frames.len() {
-        0 => Ok(value),
-        _ => Err(JsonFault::Syntax { place }),
-    }
-}
-
-/// The value at the end of the bytes.
-#[tactic(auto, unfolding(crate::specs::Reading::finish))]
-pub fn finish(place: usize, state: State) -> Result<Json, JsonFault>
-    ensures { Gives tree result (machine.finish place (frames_view state.frames) (mode_view state.mode)) }
-{
-    let State { frames, mode } = state;
-    match mode {
-        Mode::AfterZero(_, _) => whole_text(place, frames, Json::Whole(0)),
-        Mode::InDigits(negative, number, first) => {
-            if !fits(negative, number) {
-                return Err(JsonFault::TooWide { place: first });
-            }
-            whole_text(place, frames, Json::Whole(signed_value(negative, number)))
-        }
-        Mode::Ended(value) => Ok(value),
-        _ => Err(JsonFault::Syntax { place }),
+        step_at(alloc, bytes, at, state)
     }
 }

@@ -3,10 +3,10 @@ ghost use Rattle.std.specs.Prelude.{◌≡◌, ◌<◌, ◌++◌, OnOk, IfOk};
 ghost use Rattle.std.specs.Char.{encode_utf8, digit_value};
 ghost use Rattle.lg_json.specs.Reading as machine;
 ghost use Rattle.lg_json.specs.View.{with_text};
-ghost use Rattle.lg_json.specs.declared.mode.TextMode.TheVariants.{Character};
+ghost use Rattle.lg_json.specs.declared.state.TextMode.TheVariants.{Character};
 ghost use Rattle.lg_containers.specs.declared.utf8.Utf8State.TheVariants.{Boundary};
 
-use crate::mode::TextMode;
+use crate::state::TextMode;
 use lg_containers::utf8::{self, Utf8State};
 use std::alloc::AllocError;
 
@@ -94,10 +94,7 @@ fn push_plain(
     }
 }
 
-fn push_escaped(
-    text: &mut Vec<u8>,
-    escaped: Option<u8>,
-) -> Result<Option<TextMode>, AllocError>
+fn push_escaped(text: &mut Vec<u8>, escaped: Option<u8>) -> Result<Option<TextMode>, AllocError>
     ensures { IfOk result (λ m. with_text text.new.items m ≡ machine.escape_step text.old.items escaped) }
 {
     match escaped {

@@ -9,7 +9,8 @@ use Rattle.std.specs.FinMap.Entries.{find, is_some-find}
 use Rattle.lg_containers.specs.NameOrder.{name_order, is_in_order}
 use Rattle.lg_containers.specs.NameTable.{get, get-insert, same_table}
 use Rattle.lg_meta.specs.declared.change.DatedChange.{DatedChange}
-use Rattle.lg_meta.specs.MetaFold.{Metadata, meta_at, last_date}
+use Rattle.lg_types.specs.Changes.{MetaOf}
+use Rattle.lg_meta.specs.MetaFold.{meta_at, last_date}
 use Rattle.lg_meta.specs.Index.{names, hits, places, places_in, changes_of, value_there, is_there_by, last_value, with_value, IsRising, IsIndexed}
 use Rattle.lg_meta.proofs.Folds.{is_among, same_names}
 use Rattle.lg_meta.proofs.Marks.{places-push, places-below, places-take}
@@ -118,7 +119,7 @@ or_some true false v o p is h = is
 or_some false true v o p is h = sym (h refl)
 or_some false false v o p is h = is
 
-put_more : (meta target : Metadata) (ns : List (List ℕ)) (name : List ℕ) (o : Option (List ℕ)) → ((q : List ℕ) → get meta q ≡ cond (is_among q ns) (get target q) None) → o ≡ get target name
+put_more : (meta target : MetaOf) (ns : List (List ℕ)) (name : List ℕ) (o : Option (List ℕ)) → ((q : List ℕ) → get meta q ≡ cond (is_among q ns) (get target q) None) → o ≡ get target name
     → (q : List ℕ) → get (with_value meta name o) q ≡ cond (is_among q ns || eq_by_cmp name_order q name) (get target q) None
 put_more meta target ns name None so_far is q =
     or_none (is_among q ns) (eq_by_cmp name_order q name) (get target q) (get meta q) (so_far q) (λ e. ap (get target) (same_names q name e) ∙ sym is)
@@ -130,7 +131,7 @@ or_false : (b : Bool) → (b || false) ≡ b
 or_false true = refl
 or_false false = refl
 
-pub copied_more : (entries : List (List ℕ × List ℕ)) (i : ℕ) (entry : List ℕ × List ℕ) (meta next target : Metadata) (o : Option (List ℕ)) → i < length entries → entry ≡ get_or entries i entry
+pub copied_more : (entries : List (List ℕ × List ℕ)) (i : ℕ) (entry : List ℕ × List ℕ) (meta next target : MetaOf) (o : Option (List ℕ)) → i < length entries → entry ≡ get_or entries i entry
     → ((q : List ℕ) → get meta q ≡ cond (is_among q (map (λ p. p.0) (take i entries))) (get target q) None) → o ≡ get target entry.0 → next ≡ with_value meta entry.0 o
     → (q : List ℕ) → get next q ≡ cond (is_among q (map (λ p. p.0) (take (i + 1) entries))) (get target q) None
 copied_more entries i entry meta next target o lt is so_far value made q =
@@ -147,7 +148,7 @@ all_or_none : (b : Bool) (o : Option (List ℕ)) → (b ≡ false → o ≡ None
 all_or_none true o h = refl
 all_or_none false o h = sym (h refl)
 
-pub copied_all : (date : Option ℤ) (all : List DatedChange) (n : ℕ) (index entries : List (List ℕ × List ℕ)) (i : ℕ) (meta target : Metadata) → IsIndexed all n index → entries ≡ index → length entries ≤ i → target ≡ meta_at date (take n all)
+pub copied_all : (date : Option ℤ) (all : List DatedChange) (n : ℕ) (index entries : List (List ℕ × List ℕ)) (i : ℕ) (meta target : MetaOf) → IsIndexed all n index → entries ≡ index → length entries ≤ i → target ≡ meta_at date (take n all)
     → ((q : List ℕ) → get meta q ≡ cond (is_among q (map (λ p. p.0) (take i entries))) (get target q) None) → meta ≡ target
 copied_all date all n index entries i meta target indexed same le is so_far =
     same_table meta target (λ q. so_far q

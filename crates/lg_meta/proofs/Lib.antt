@@ -1,5 +1,6 @@
 mod Cuts
 mod Folds
+mod Logs
 mod Marking
 mod Marks
 mod Histories

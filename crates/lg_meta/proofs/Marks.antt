@@ -3,7 +3,7 @@ use Rattle.std.proofs.Common.{◌≡◌, ℕ, zero, suc, ◌+◌, ◌<◌, ◌�
 use Rattle.std.proofs.lemmas.List.Elements.{filter-append}
 use Rattle.std.specs.Ordering.{eq_by_cmp}
 use Rattle.lg_containers.specs.NameOrder.{name_order}
-use Rattle.lg_meta.specs.declared.change.MetaChange.{MetaChange}
+use Rattle.lg_types.specs.declared.changes.MetaChange.{MetaChange}
 use Rattle.lg_meta.specs.Index.{names, hits, places}
 
 cond-append : (b : Bool) (k : ℕ) (xs ys : List ℕ) → cond b (k ∷ (xs ++ ys)) (xs ++ ys) ≡ cond b (k ∷ xs) xs ++ ys

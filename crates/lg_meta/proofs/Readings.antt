@@ -6,9 +6,10 @@ use Rattle.std.proofs.lemmas.Option.{slice_get_past}
 use Rattle.std.specs.Ordering.{eq_by_cmp}
 use Rattle.lg_containers.specs.NameOrder.{name_order}
 use Rattle.lg_containers.specs.NameTable.{get}
-use Rattle.lg_meta.specs.declared.change.MetaChange.{MetaChange}
+use Rattle.lg_types.specs.declared.changes.MetaChange.{MetaChange}
 use Rattle.lg_meta.specs.declared.change.DatedChange.{DatedChange}
-use Rattle.lg_meta.specs.MetaFold.{is_by, meta_at}
+use Rattle.lg_types.specs.Tally.{is_to}
+use Rattle.lg_meta.specs.MetaFold.{meta_at}
 use Rattle.lg_meta.specs.Index.{names, hits, places, changes_of, value_of, value_there, is_there_by, last_value}
 use Rattle.lg_meta.proofs.Folds.{is_among, value_by, get-meta_at}
 use Rattle.lg_meta.proofs.Marks.{filter-hits, places-append}
@@ -49,7 +50,7 @@ reads at date q k (c ∷ cs) here o =
     ∙ last_value-cond v (is k) o (hits q k (names c.change))
     ∙ ap (λ p. cond (is k) p o) (last_value-hits v q k (names c.change) o)
     ∙ ap (λ a. cond (is_there_by date a) (cond (is_among q (names c.change)) (value_there q a) o) o) first)
-    ∙ reads at date q (suc k) cs (λ i lt. ap at (omega arith) ∙ here (suc i) (omega arith)) (cond (is_by date c.date) (cond (is_among q (names c.change)) (value_of q c.change) o) o)
+    ∙ reads at date q (suc k) cs (λ i lt. ap at (omega arith) ∙ here (suc i) (omega arith)) (cond (is_to date c.date) (cond (is_among q (names c.change)) (value_of q c.change) o) o)
 
 -- where nothing is there, nothing passes
 none_there : (at : ℕ → Option DatedChange) (date : Option ℤ) (q : List ℕ) (k : ℕ) (cs : List MetaChange) → ((i : ℕ) → k ≤ i → at i ≡ None) → filter (λ p. is_there_by date (at p)) (places q k cs) ≡ []

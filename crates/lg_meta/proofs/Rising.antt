@@ -5,9 +5,10 @@ use Rattle.std.specs.List.Sorted.{IsPartitionedBy}
 use Rattle.std.specs.Ordering.{eq_by_cmp}
 use Rattle.std.proofs.lemmas.Int.{ints}
 use Rattle.lg_containers.specs.NameOrder.{name_order}
-use Rattle.lg_meta.specs.declared.change.MetaChange.{MetaChange}
+use Rattle.lg_types.specs.declared.changes.MetaChange.{MetaChange}
 use Rattle.lg_meta.specs.declared.change.DatedChange.{DatedChange}
-use Rattle.lg_meta.specs.MetaFold.{is_by, last_date}
+use Rattle.lg_types.specs.Tally.{is_to}
+use Rattle.lg_meta.specs.MetaFold.{last_date}
 use Rattle.lg_meta.specs.Index.{names, hits, places, is_there_by, IsFrom, IsRising}
 
 -- one more date behind the last
@@ -32,11 +33,11 @@ IsRising-push (d ∷ ds) c rising h =
     (IsFrom-push d.date ds c rising.0 (from_last d ds c.date rising.0 rising.1 h), IsRising-push ds c rising.1 (rest_last d ds c.date h))
 
 -- what is dated at most at a date, so is what stands before it
-earlier : (date : Option ℤ) (a b : ℤ) → a ≤ℤ b → is_by date b ≡ true → is_by date a ≡ true
+earlier : (date : Option ℤ) (a b : ℤ) → a ≤ℤ b → is_to date b ≡ true → is_to date a ≡ true
 earlier None a b le h = refl
 earlier (Some date) a b le h = grind (arith, ints)
 
-by_from : (date : Option ℤ) (d : ℤ) (cs : List DatedChange) (n : ℕ) → IsFrom d cs → is_there_by date (slice_get cs n) ≡ true → is_by date d ≡ true
+by_from : (date : Option ℤ) (d : ℤ) (cs : List DatedChange) (n : ℕ) → IsFrom d cs → is_there_by date (slice_get cs n) ≡ true → is_to date d ≡ true
 by_from date d [] n from h = absurd cc
 by_from date d (c ∷ cs) zero from h = earlier date d c.date from.0 h
 by_from date d (c ∷ cs) (suc n) from h = by_from date d cs n from.1 h

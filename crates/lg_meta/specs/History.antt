@@ -2,7 +2,7 @@
 --     changes    the changes that were applied, each with its date, in the order in which they were applied
 --     prepared   the changes that are prepared and not yet applied, in the order in which they were prepared
 use Rattle.std.specs.Prelude.{ℤ, List, [], ◌∷◌, ◌++◌}
-use Rattle.lg_meta.specs.declared.change.MetaChange.{MetaChange}
+use Rattle.lg_types.specs.declared.changes.MetaChange.{MetaChange}
 use Rattle.lg_meta.specs.declared.change.DatedChange.{DatedChange}
 
 pub record History : Type 0 where

@@ -10,10 +10,11 @@ use Rattle.std.specs.Ordering.{eq_by_cmp}
 use Rattle.std.specs.FinMap.Entries.{find}
 use Rattle.lg_containers.specs.NameOrder.{name_order, is_in_order}
 use Rattle.lg_containers.specs.NameTable.{pairs_of, get, insert}
-use Rattle.lg_meta.specs.declared.change.MetaChange.{MetaChange}
-use Rattle.lg_meta.specs.declared.change.MetaChange.TheVariants.{Set, Drop}
+use Rattle.lg_types.specs.declared.changes.MetaChange.{MetaChange}
+use Rattle.lg_types.specs.declared.changes.MetaChange.TheVariants.{Set, Drop}
 use Rattle.lg_meta.specs.declared.change.DatedChange.{DatedChange}
-use Rattle.lg_meta.specs.MetaFold.{Metadata, is_by}
+use Rattle.lg_types.specs.Changes.{MetaOf}
+use Rattle.lg_types.specs.Tally.{is_to}
 
 abbrev pub names : MetaChange → List (List ℕ)
 names (Set set) = map (λ pair. pair.0) (pairs_of set)
@@ -46,7 +47,7 @@ value_there name (Some dated) = value_of name dated.change
 -- whether a change is there, dated at most at the date
 abbrev pub is_there_by : Option ℤ → Option DatedChange → Bool
 is_there_by date None = false
-is_there_by date (Some dated) = is_by date dated.date
+is_there_by date (Some dated) = is_to date dated.date
 
 abbrev pub last_value : (ℕ → Option (List ℕ)) → Option (List ℕ) → List ℕ → Option (List ℕ)
 last_value value_at value [] = value
@@ -73,6 +74,6 @@ abbrev pub SameBelowPlace : ℕ → List ℕ → List ℕ → Type 0
 SameBelowPlace place old new = filter (λ p. nat_lt p place) new ≡ filter (λ p. nat_lt p place) old
 
 -- the value is put under the name, where there is one
-abbrev pub with_value : Metadata → List ℕ → Option (List ℕ) → Metadata
+abbrev pub with_value : MetaOf → List ℕ → Option (List ℕ) → MetaOf
 with_value meta name None = meta
 with_value meta name (Some value) = insert meta name value

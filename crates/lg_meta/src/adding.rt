@@ -5,10 +5,11 @@ ghost use Rattle.std.specs.Option.{option_copied};
 ghost use Rattle.lg_containers.specs.NameOrder.{is_in_order};
 ghost use Rattle.lg_meta.specs.Index.{names, hits, places_in, changes_of, with_value, SameBelowPlace};
 
-use crate::change::{DatedChange, MetaChange};
+use crate::change::DatedChange;
 use crate::index::{cut, mark_change};
 use crate::places::Places;
 use lg_containers::{Duplicate, Meta, NoMemory, Text};
+use lg_types::MetaChange;
 use std::alloc::Global;
 
 /// Adds the change behind the others, and its place to those of its names.

@@ -7,11 +7,12 @@ ghost use Rattle.lg_meta.specs.MetaFold.{meta_at, first_date, last_date};
 ghost use Rattle.lg_meta.specs.History.{first_applied};
 
 use crate::adding::{add_change, put_copy};
-use crate::change::{DatedChange, MetaChange};
+use crate::change::DatedChange;
 use crate::index::{cut, find_places};
 use crate::latest::latest;
 use crate::places::Places;
 use lg_containers::{Duplicate, Meta, NoMemory, Text};
+use lg_types::MetaChange;
 use std::alloc::Global;
 use std::marker::Model;
 

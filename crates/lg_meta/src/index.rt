@@ -7,9 +7,9 @@ ghost use Rattle.lg_containers.specs.NameOrder.{name_order, is_in_order};
 ghost use Rattle.lg_containers.specs.Places.{IsPlace};
 ghost use Rattle.lg_meta.specs.Index.{names, hits, places_in, SameBelowPlace};
 
-use crate::change::MetaChange;
 use crate::places::Places;
 use lg_containers::{Duplicate, NoMemory, Text};
+use lg_types::MetaChange;
 use std::alloc::Global;
 use std::cmp::Ordering;
 

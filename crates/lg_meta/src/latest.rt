@@ -3,15 +3,15 @@
 ghost use Rattle.std.specs.Prelude.{◌≡◌, filter, slice_get, None};
 ghost use Rattle.std.specs.Option.{option_copied};
 ghost use Rattle.std.specs.List.Sorted.{IsPartitionedBy};
-ghost use Rattle.lg_meta.specs.MetaFold.{is_by as moment_by};
+ghost use Rattle.lg_types.specs.Tally.{is_to as moment_to};
 ghost use Rattle.lg_meta.specs.Index.{is_there_by, value_there, last_value};
 
 use crate::change::{DatedChange, value_of};
 use lg_containers::Text;
 
 // Whether the moment is at most the date, always where no date is given.
-fn is_by(date: &Option<i64>, moment: &i64) -> bool
-    ensures { result ≡ moment_by date.now moment.now }
+fn is_to(date: &Option<i64>, moment: &i64) -> bool
+    ensures { result ≡ moment_to date.now moment.now }
 {
     match date {
         None => true,
@@ -25,7 +25,7 @@ fn is_applied_by(applied: &[DatedChange], date: &Option<i64>, place: usize) -> b
 {
     match applied.get(place) {
         None => false,
-        Some(dated) => is_by(date, &dated.date),
+        Some(dated) => is_to(date, &dated.date),
     }
 }
 

@@ -6,10 +6,12 @@ mod change;
 mod history;
 mod index;
 mod latest;
+pub mod laws;
 mod places;
 
-pub use change::{DatedChange, MetaChange};
+pub use change::DatedChange;
 pub use history::MetaHistory;
+pub use lg_types::MetaChange;
 
 #[cfg(test)]
 mod tests;

@@ -8,3 +8,4 @@ pub mod Ranks
 pub mod Seen
 pub mod Tree
 pub mod Late
+pub mod Trial

@@ -17,3 +17,6 @@ mod tree;
 pub use index::MoveIndex;
 pub use lg_base::NoMemory;
 pub use moves::Move;
+
+#[cfg(test)]
+mod tests;

@@ -10,3 +10,6 @@ mod steps;
 pub use runs::Runs;
 pub use std::alloc::AllocError as NoMemory;
 pub use steps::Steps;
+
+#[cfg(test)]
+mod tests;

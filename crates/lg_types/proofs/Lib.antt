@@ -4,3 +4,4 @@ pub mod MarkedLists
 pub mod Shares
 pub mod MoveSums
 pub mod StripeKnows
+pub mod Limits

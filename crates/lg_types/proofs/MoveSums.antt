@@ -69,7 +69,7 @@ transaction-fails : (test : Move → Bool) (inserted : ℤ) (o : Option Transact
 transaction-fails test inserted None f = tt
 transaction-fails test inserted (Some t) f = postings-fail test t.id inserted t.timestamp (λ m h k. f m h) t.postings
 
-moves-snoc : (g : List Entry) (e : Entry) → moves (g ++ e ∷ []) ≡ moves g ++ entry_moves e
+pub moves-snoc : (g : List Entry) (e : Entry) → moves (g ++ e ∷ []) ≡ moves g ++ entry_moves e
 moves-snoc g e = moves-append g (e ∷ []) ∙ ap (λ l. moves g ++ l) (append-nil (entry_moves e))
 
 pub later_entry : LaterEntry

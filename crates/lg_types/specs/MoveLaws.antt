@@ -3,11 +3,13 @@ use Rattle.std.specs.Prelude.{◌≡◌, ℕ, ℤ, Bool, false, ◌&&◌, if◌t
 use Rattle.std.specs.Ordering.{int_eq}
 use Rattle.std.specs.List.{sum_by}
 use Rattle.std.specs.Str.{bytes_eq}
-use Rattle.lg_base.specs.Volumes.{sum_of}
+use Rattle.lg_base.specs.declared.amounts.Volumes.{Volumes}
+use Rattle.lg_base.specs.Volumes.{sum_of, IsWithinLimit}
 use Rattle.lg_types.specs.declared.moves.Move.{Move}
 use Rattle.lg_types.specs.declared.records.Entry.{Entry}
+use Rattle.lg_types.specs.declared.records.Posting.{Posting}
 use Rattle.lg_types.specs.declared.records.Transaction.{Transaction}
-use Rattle.lg_types.specs.Moves.{Placed, moves, volumes, body_transaction}
+use Rattle.lg_types.specs.Moves.{Placed, moves, volumes, total, body_transaction}
 use Rattle.lg_types.specs.Tally.{amount_in, amount_out, is_inserted_to, is_effective_to, is_of_transaction_to, is_of_transaction_before, is_ranked_to, is_ranked_before}
 
 -- what comes in of an asset, over all accounts, and what goes out of it
@@ -45,3 +47,11 @@ WithOwnPostings = (ms : List Placed) (id : ℕ) (account asset : List ℕ)
 abbrev pub WithOwnPostingsByRank : Type 0
 WithOwnPostingsByRank = (ms : List Placed) (date : ℤ) (id : ℕ) (account asset : List ℕ)
     → volumes ms (is_ranked_to date id) account asset ≡ sum_of (volumes ms (is_ranked_before date id) account asset) (volumes ms (is_of_rank date id) account asset)
+
+-- inputs and outputs of each account and asset are within the limit
+pub record IsWithin (ms : List Placed) : Type 0 where
+  pub each : (account asset : List ℕ) → IsWithinLimit (total ms account asset)
+
+-- what one posting adds to the volumes of an account and an asset
+abbrev pub posting_volumes : List ℕ → List ℕ → Posting → Volumes
+posting_volumes account asset p = record { input = if bytes_eq p.destination account && bytes_eq p.asset asset then p.amount else 0; output = if bytes_eq p.source account && bytes_eq p.asset asset then p.amount else 0 }

@@ -9,3 +9,5 @@ pub mod ReadBack
 pub mod Refused
 pub mod Tests
 pub mod Walks
+pub mod Within
+pub mod FirstViews

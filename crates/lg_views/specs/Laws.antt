@@ -1,5 +1,5 @@
 -- The laws of outcomes and of histories.
-use Rattle.std.specs.Prelude.{◌≡◌, ℕ, ◌+◌, ℤ, Bool, true, List, [], ◌∷◌, ◌++◌}
+use Rattle.std.specs.Prelude.{◌≡◌, ℕ, ◌+◌, ℤ, Bool, true, List, [], ◌∷◌, ◌++◌, Some, None}
 use Rattle.lg_types.specs.declared.calls.Batch.{Batch}
 use Rattle.lg_types.specs.declared.calls.Batch.TheVariants.{Ready, Bad}
 use Rattle.lg_types.specs.declared.calls.Call.{Call}
@@ -13,8 +13,14 @@ use Rattle.lg_views.specs.declared.lines.ScriptLine.{ScriptLine}
 use Rattle.lg_views.specs.declared.replies.Content.{Content}
 use Rattle.lg_views.specs.declared.replies.Content.TheVariants as content
 use Rattle.lg_views.specs.History.{Legal, Alone}
-use Rattle.lg_views.specs.Import.{IsImportable, NumberedLine, Read, checked_lines}
+use Rattle.lg_views.specs.Import.{fault, IsImportable, NumberedLine, Read, checked_lines}
 use Rattle.lg_views.specs.Outcome.{Task, ToWrite, ToBulk, ToImport, ToRead, in_ledger, outcome, AnswerAlike}
+use Rattle.lg_base.specs.Volumes.{IsWithinLimit}
+use Rattle.lg_types.specs.declared.moves.Move.{Move}
+use Rattle.lg_types.specs.declared.records.Transaction.{Transaction}
+use Rattle.lg_types.specs.declared.records.Target.TheVariants.{Transaction as TransactionOf}
+use Rattle.lg_types.specs.Changes.{metadata_at}
+use Rattle.lg_types.specs.Moves.{moves, volumes, body_transaction}
 
 -- the entries of a batch come from lines that were checked, so they are importable
 abbrev pub IsGoodBatch : Batch → Type 0
@@ -84,3 +90,11 @@ IsRefusal _ = ⊥
 
 abbrev pub RefusedAppendsNothing : Type 0
 RefusedAppendsNothing = (events : List Event) (c : Call) (now : ℤ) → IsRefusal (outcome events c now).0.content → (outcome events c now).1 ≡ []
+
+-- in an importable log no input and no output passes the limit, whatever moves are counted
+abbrev pub VolumesWithinLimit : Type 0
+VolumesWithinLimit = (g : List Entry) → IsImportable g → (test : Move → Bool) (account asset : List ℕ) → IsWithinLimit (volumes (moves g) test account asset)
+
+-- what the first reply shows of metadata, those of the transaction alone, is what a reading after its entry shows
+abbrev pub NewMetadataShown : Type 0
+NewMetadataShown = (g : List Entry) (e : Entry) (t : Transaction) → IsImportable g → fault g e ≡ None → body_transaction e.body ≡ Some t → metadata_at (g ++ e ∷ []) (TransactionOf t.id) None ≡ t.metadata

@@ -1,7 +1,7 @@
 //! Laws of the definitions. Each function's contract is a law; there is nothing to run.
 
 ghost use Rattle.lg_views.specs.PageLaws.{AccountPages, EntryPages, TransactionPages};
-ghost use Rattle.lg_views.specs.Laws.{OutcomesKeepLogs, LegalLogsImportable, AloneIsLegal, ReadsBack, RefusedAppendsNothing, ChecksImportable, ImportedAnswersAlike, AnsweredByOneLog};
+ghost use Rattle.lg_views.specs.Laws.{OutcomesKeepLogs, LegalLogsImportable, AloneIsLegal, ReadsBack, RefusedAppendsNothing, ChecksImportable, ImportedAnswersAlike, AnsweredByOneLog, VolumesWithinLimit, NewMetadataShown};
 
 /// Every outcome of every call, lists of writes and imports included, keeps every ledger's log importable.
 #[tactic(auto, using(crate::proofs::Outcomes::outcomes_keep_logs))]
@@ -59,4 +59,14 @@ pub fn account_pages()
 pub fn log_pages()
     ensures entries { EntryPages }
     ensures transactions { TransactionPages }
+{}
+
+/// In an importable log no input and no output passes the limit, at any date and in either order.
+pub fn volumes_within_limit()
+    ensures { VolumesWithinLimit }
+{}
+
+/// What the first reply shows of metadata, those of the transaction alone, is what a reading after its entry shows.
+pub fn new_metadata_shown()
+    ensures { NewMetadataShown }
 {}

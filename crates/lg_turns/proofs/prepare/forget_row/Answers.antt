@@ -1,0 +1,7 @@
+use Rattle.std.proofs.Common.{◌≤◌, arith}
+use Rattle.lg_turns.proofs.Places.{held-more}
+use Rattle.lg_turns.proofs.Stages.{forgotten-done}
+use Rattle.lg_turns.proofs.prepare.forget_row.Goals as goal
+
+pub returns : goal.returns
+returns g c = let le : c.args.end ≤ c.loop-place.place = omega arith in held-more _ _ _ c.loop-place.invariant (λ k a lt h. forgotten-done le h)

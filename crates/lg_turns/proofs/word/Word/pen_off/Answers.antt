@@ -1,0 +1,6 @@
+use Rattle.std.proofs.Common.{sym, ◌∙◌, arith}
+use Rattle.lg_turns.proofs.Keeping.{splits, cuts-pen_off}
+use Rattle.lg_turns.proofs.word.Word.pen_off.Goals as goal
+
+pub split_seat-requires : goal.split_seat-requires
+split_seat-requires g c = (c.requires ∙ sym c.args.self.now.named, omega (arith, c.args.self.now.one), splits _ _ _ _ (cuts-pen_off _))

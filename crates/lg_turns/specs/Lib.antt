@@ -1,0 +1,4 @@
+pub mod Rules
+pub mod Stripes
+pub mod Rows
+pub mod Passes
