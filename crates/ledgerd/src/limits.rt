@@ -24,12 +24,6 @@ fn unended(bytes: &[u8]) -> usize
 {
     match bytes.last() {
         None => 0,
-        Some(byte) => {
-            if *byte == b'\n' {
-                0
-            } else {
-                1
-            }
-        }
+        Some(byte) => { if *byte == b'\n' { 0 } else { 1 } }
     }
 }
