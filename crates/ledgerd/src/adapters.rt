@@ -1,7 +1,6 @@
 //! The outside world as a source and sinks. They tell nothing of their bytes.
 
-ghost use Rattle.std.specs.Prelude.{◌≡◌, IsErr};
-ghost use Rattle.lg_base.specs.Growth.{Rose};
+ghost use Rattle.std.specs.Prelude.{◌≡◌};
 
 use lg_base::{Failed, Sink, Source};
 use std::io::{Read, Write};
@@ -54,14 +53,6 @@ impl<W: Write> WriteSink<W> {
     {
         WriteSink { writer, faults: 0 }
     }
-
-    fn fail(&mut self) -> Result<usize, Failed>
-        ensures failed { IsErr result }
-        ensures rose { Rose self.old.faults self.new.faults }
-    {
-        self.faults = self.faults.saturating_add(1);
-        Err(Failed)
-    }
 }
 
 impl<W: Write> Sink for WriteSink<W> {
@@ -74,8 +65,10 @@ impl<W: Write> Sink for WriteSink<W> {
     fn write(&mut self, piece: &[u8]) -> Result<usize, Failed> {
         match self.writer.write(piece) {
             Ok(count) if count > 0 || piece.is_empty() => Ok(count),
-            Ok(_) => self.fail(),
-            Err(_) => self.fail(),
+            _ => {
+                self.faults = self.faults.saturating_add(1);
+                Err(Failed)
+            }
         }
     }
 }

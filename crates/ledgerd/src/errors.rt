@@ -11,7 +11,8 @@ pub fn error_text(status: Status) -> &'static [u8]
 {
     match status {
         Status::Done => b"",
-        Status::Words => b"usage: ledgerd run | batch N | verify [recompute] | make SEED N | script SEED N | serve HOST:PORT N | usage\n",
+        Status::Words =>
+            b"usage: ledgerd run | batch N | verify [recompute] | make SEED N | script SEED N | serve HOST:PORT N | usage\n",
         Status::ReadFault => b"ledgerd: read fault\n",
         Status::WriteFault => b"ledgerd: write fault\n",
         Status::Memory => b"ledgerd: out of memory\n",

@@ -1,7 +1,6 @@
 //! How much input the program takes.
 
-ghost use Rattle.std.specs.Prelude.{◌≡◌, ◌≤◌, length};
-ghost use Rattle.lg_types.specs.Lists.{last_of};
+ghost use Rattle.std.specs.Prelude.{◌≡◌, ◌≤◌, ◌-◌, length, slice_get};
 ghost use Rattle.ledgerd.specs.Limits.{line_count as count_of_lines, unended_lines};
 
 /// The most bytes of input.
@@ -20,17 +19,11 @@ pub fn line_count(bytes: &[u8]) -> usize
 
 /// 1 where the last byte is no newline, and else 0.
 fn unended(bytes: &[u8]) -> usize
-    ensures value { result ≡ unended_lines (last_of bytes.now) }
+    ensures value { result ≡ unended_lines (slice_get bytes.now (length bytes.now - 1)) }
     ensures small { result ≤ 1 }
 {
     match bytes.last() {
         None => 0,
-        Some(byte) => {
-            if *byte == b'\n' {
-                0
-            } else {
-                1
-            }
-        }
+        Some(byte) => { if *byte == b'\n' { 0 } else { 1 } }
     }
 }

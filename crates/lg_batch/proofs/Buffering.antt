@@ -20,10 +20,12 @@ pub fed_in_part : {F T E : Type 0} (written : F → Option (List ℕ)) (held : F
     → (m : List ℕ) → Told (written old) m → ToldInPart (written new) (m ++ text)
 fed_in_part written held stops lent old new text e g empty m told =
     let part = g.stopped m (told_ahead (written old) (held old) m empty told) in
-    let inner = ahead_in_part (written new) (held new) (m ++ part.0) part.3 in
-    (inner.0, inner.1 ++ part.1,
-     ap (λ (l : List ℕ). m ++ l) part.2 ∙ sym (append_assoc m part.0 part.1) ∙ ap (λ (l : List ℕ). l ++ part.1) inner.2 ∙ append_assoc inner.0 inner.1 part.1,
-     inner.3)
+    let inner = ahead_in_part (written new) (held new) (m ++ part.0) part.3 in (
+      inner.0,
+      inner.1 ++ part.1,
+      ap (λ (l : List ℕ). m ++ l) part.2 ∙ sym (append_assoc m part.0 part.1) ∙ ap (λ (l : List ℕ). l ++ part.1) inner.2 ∙ append_assoc inner.0 inner.1 part.1,
+      inner.3,
+    )
 
 -- the waiting bytes were written at the end, or that failed
 pub flushed : {K E : Type 0} (sink : SinkGhosts K) (first middle last : K) (held left text : List ℕ) (r : Result (Unit {0}) E)

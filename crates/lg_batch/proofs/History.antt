@@ -45,13 +45,14 @@ owned_is events own more = ap (take (length own)) (drop-append_seam events (own 
 here : (events own more : List Event) (l : ScriptLine) (left : List ScriptLine) (others : List Answer) (reply : Reply)
     → IsAnswerTo events l.call l.moment reply own → AloneFrom ((events ++ own) ++ more) (length (events ++ own)) left others
     → AloneFrom (events ++ (own ++ more)) (length events) (l ∷ left) (answer_at events own reply ∷ others)
-here events own more l left others reply answers h =
-    (refl,
-     omega (arith, length-append events (own ++ more), length-append own more),
-     subst (λ (before : List Event). IsAnswerTo before l.call l.moment reply (take (length own) (drop (length events) (events ++ (own ++ more))))) (sym (take-append_seam events (own ++ more)))
-       (subst (λ (mine : List Event). IsAnswerTo events l.call l.moment reply mine) (sym (owned_is events own more)) answers),
-     subst (λ (n : ℕ). AloneFrom (events ++ (own ++ more)) n left others) (length-append events own)
-       (subst (λ (all : List Event). AloneFrom all (length (events ++ own)) left others) (append_assoc events own more) h))
+here events own more l left others reply answers h = (
+  refl,
+  omega (arith, length-append events (own ++ more), length-append own more),
+  subst (λ (before : List Event). IsAnswerTo before l.call l.moment reply (take (length own) (drop (length events) (events ++ (own ++ more))))) (sym (take-append_seam events (own ++ more)))
+      (subst (λ (mine : List Event). IsAnswerTo events l.call l.moment reply mine) (sym (owned_is events own more)) answers),
+  subst (λ (n : ℕ). AloneFrom (events ++ (own ++ more)) n left others) (length-append events own)
+      (subst (λ (all : List Event). AloneFrom all (length (events ++ own)) left others) (append_assoc events own more) h),
+)
 
 -- one more line is answered
 grown : (lines left : List ScriptLine) (events own : List Event) (l : ScriptLine) (takens : List TakenLine) (taken : Taken) (reply : Reply)
@@ -87,7 +88,7 @@ pub step : (lines left : List ScriptLine) (events new : List Event) (l : ScriptL
 step lines left events new l takens Appended c t =
     subst (λ (all : List Event). Continues lines all left (takens ++ taken_at events l Appended ∷ [])) (sym t.appended)
     (grown lines left events (Logged t.ledger t.entry ∷ []) l takens Appended t.reply c (inl t.is_outcome)
-      (λ more. ap (line_text l.line (length events) 1) t.shown ∙ sym (ap (entry_line l.line (length events)) (at_front events more (Logged t.ledger t.entry)))))
+    (λ more. ap (line_text l.line (length events) 1) t.shown ∙ sym (ap (entry_line l.line (length events)) (at_front events more (Logged t.ledger t.entry)))))
 step lines left events new l takens (Refused x) c t =
     subst (λ (all : List Event). Continues lines all left (takens ++ taken_at events l (Refused x) ∷ [])) (append-nil events ∙ sym t.unchanged)
     (grown lines left events [] l takens (Refused x) (refused x) c (refusal_is t.is_outcome) (λ more. refl))
@@ -124,9 +125,9 @@ pub step_at : (lines : List ScriptLine) (i : ℕ) (l : ScriptLine) (events seen 
     → Continues lines new (drop (i + 1) lines) after
 step_at lines i l events seen new takens after taken c within is seen_is takes after_is =
     subst (λ (ts : List TakenLine). Continues lines new (drop (i + 1) lines) ts)
-      (sym (after_is ∙ ap (λ (s : List Event). takens ++ record { line = l.line; front = length s; taken = taken } ∷ []) seen_is))
-      (step lines (drop (i + 1) lines) events new l takens taken
-        (subst (λ (ls : List ScriptLine). Continues lines events ls takens) (drop_more lines i l within ∙ ap (λ (y : ScriptLine). y ∷ drop (i + 1) lines) (sym is)) c) takes)
+    (sym (after_is ∙ ap (λ (s : List Event). takens ++ record { line = l.line; front = length s; taken = taken } ∷ []) seen_is))
+    (step lines (drop (i + 1) lines) events new l takens taken
+    (subst (λ (ls : List ScriptLine). Continues lines events ls takens) (drop_more lines i l within ∙ ap (λ (y : ScriptLine). y ∷ drop (i + 1) lines) (sym is)) c) takes)
 
 -- past the last place
 pub finish_at : (lines : List ScriptLine) (i : ℕ) (events : List Event) (takens : List TakenLine)

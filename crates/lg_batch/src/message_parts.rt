@@ -1,8 +1,6 @@
 //! The pieces of a refusal's message.
 
-use lg_types::{
-    Address, Asset, FaultKind, ImportCause, Key, LedgerName, Reason, Reference, Text,
-};
+use lg_types::{Address, Asset, FaultKind, ImportCause, Key, LedgerName, Reason, Reference, Text};
 
 /// A piece of a message. Names stand as they are.
 #[derive(Clone, Copy)]

@@ -153,28 +153,175 @@ pub fn feed_message<F: Feed>(refusal: &Refusal, to: &mut F) -> Result<(), Stop>
     match refusal {
         Refusal::NoRoute => feed_escaped(b"no route", to),
         Refusal::Method => feed_escaped(b"method", to),
-        Refusal::LineJson { fault, place } => feed_parts(&[MessagePart::Plain(b"line: "), MessagePart::Fault(*fault), MessagePart::Plain(b" at byte "), MessagePart::Number(*place as u128)], to),
-        Refusal::LineMember { member, reason } => feed_parts(&[MessagePart::Plain(b"line: "), MessagePart::Member(member), MessagePart::Reason(*reason)], to),
-        Refusal::BodyJson { fault, place } => feed_parts(&[MessagePart::Plain(b"body: "), MessagePart::Fault(*fault), MessagePart::Plain(b" at byte "), MessagePart::Number(*place as u128)], to),
-        Refusal::Member { path, reason } => feed_parts(&[MessagePart::Text(path), MessagePart::Plain(b": "), MessagePart::Reason(*reason)], to),
-        Refusal::Parameter { name } => feed_parts(&[MessagePart::Plain(b"query "), MessagePart::Text(name)], to),
+        Refusal::LineJson { fault, place } => feed_parts(
+            &[
+                MessagePart::Plain(b"line: "),
+                MessagePart::Fault(*fault),
+                MessagePart::Plain(b" at byte "),
+                MessagePart::Number(*place as u128),
+            ],
+            to,
+        ),
+        Refusal::LineMember { member, reason } => feed_parts(
+            &[
+                MessagePart::Plain(b"line: "),
+                MessagePart::Member(member),
+                MessagePart::Reason(*reason),
+            ],
+            to,
+        ),
+        Refusal::BodyJson { fault, place } => feed_parts(
+            &[
+                MessagePart::Plain(b"body: "),
+                MessagePart::Fault(*fault),
+                MessagePart::Plain(b" at byte "),
+                MessagePart::Number(*place as u128),
+            ],
+            to,
+        ),
+        Refusal::Member { path, reason } => feed_parts(
+            &[
+                MessagePart::Text(path),
+                MessagePart::Plain(b": "),
+                MessagePart::Reason(*reason),
+            ],
+            to,
+        ),
+        Refusal::Parameter { name } => feed_parts(
+            &[MessagePart::Plain(b"query "), MessagePart::Text(name)],
+            to,
+        ),
         Refusal::Token => feed_escaped(b"cursor", to),
-        Refusal::BadFilter { path } => feed_parts(&[MessagePart::Plain(b"filter "), MessagePart::Text(path)], to),
-        Refusal::KeyInput { key, kept, given } => feed_parts(&[MessagePart::Plain(b"key "), MessagePart::Key(key), MessagePart::Plain(b": kept "), MessagePart::Hash(kept), MessagePart::Plain(b", given "), MessagePart::Hash(given)], to),
+        Refusal::BadFilter { path } => feed_parts(
+            &[MessagePart::Plain(b"filter "), MessagePart::Text(path)],
+            to,
+        ),
+        Refusal::KeyInput { key, kept, given } => feed_parts(
+            &[
+                MessagePart::Plain(b"key "),
+                MessagePart::Key(key),
+                MessagePart::Plain(b": kept "),
+                MessagePart::Hash(kept),
+                MessagePart::Plain(b", given "),
+                MessagePart::Hash(given),
+            ],
+            to,
+        ),
         Refusal::Script => feed_escaped(b"script", to),
         Refusal::NoPostings => feed_escaped(b"no postings", to),
-        Refusal::BulkSize { elements } => feed_parts(&[MessagePart::Number(*elements as u128), MessagePart::Plain(b" elements")], to),
-        Refusal::NoLedger { name } => feed_parts(&[MessagePart::Plain(b"ledger "), MessagePart::LedgerName(name)], to),
-        Refusal::LedgerThere { name } => feed_parts(&[MessagePart::Plain(b"ledger "), MessagePart::LedgerName(name)], to),
-        Refusal::NoTransaction { id } => feed_parts(&[MessagePart::Plain(b"transaction "), MessagePart::Number(*id as u128)], to),
-        Refusal::NoAccount { address } => feed_parts(&[MessagePart::Plain(b"account "), MessagePart::Address(address)], to),
-        Refusal::Already { id, by } => feed_parts(&[MessagePart::Plain(b"transaction "), MessagePart::Number(*id as u128), MessagePart::Plain(b" is reverted by "), MessagePart::Number(*by as u128)], to),
-        Refusal::Lack { posting, account, asset, balance, amount } => feed_parts(&[MessagePart::Plain(b"posting "), MessagePart::Number(*posting as u128), MessagePart::Plain(b": "), MessagePart::Address(account), MessagePart::Plain(b" has "), MessagePart::Balance(balance), MessagePart::Plain(b" "), MessagePart::Asset(asset), MessagePart::Plain(b", needs "), MessagePart::Number(*amount)], to),
-        Refusal::Below { account, asset, balance } => feed_parts(&[MessagePart::Plain(b"revert: "), MessagePart::Address(account), MessagePart::Plain(b" would have "), MessagePart::Balance(balance), MessagePart::Plain(b" "), MessagePart::Asset(asset)], to),
-        Refusal::Limit { posting } => feed_parts(&[MessagePart::Plain(b"posting "), MessagePart::Number(*posting as u128), MessagePart::Plain(b" passes the limit")], to),
-        Refusal::SumLimit { asset } => feed_parts(&[MessagePart::Asset(asset), MessagePart::Plain(b" passes the limit")], to),
-        Refusal::Used { reference, id } => feed_parts(&[MessagePart::Plain(b"reference "), MessagePart::Reference(reference), MessagePart::Plain(b" is used by transaction "), MessagePart::Number(*id as u128)], to),
-        Refusal::Import { line, cause } => feed_parts(&[MessagePart::Plain(b"line "), MessagePart::Number(*line as u128), MessagePart::Plain(b": "), MessagePart::Cause(cause)], to),
+        Refusal::BulkSize { elements } => feed_parts(
+            &[
+                MessagePart::Number(*elements as u128),
+                MessagePart::Plain(b" elements"),
+            ],
+            to,
+        ),
+        Refusal::NoLedger { name } => feed_parts(
+            &[
+                MessagePart::Plain(b"ledger "),
+                MessagePart::LedgerName(name),
+            ],
+            to,
+        ),
+        Refusal::LedgerThere { name } => feed_parts(
+            &[
+                MessagePart::Plain(b"ledger "),
+                MessagePart::LedgerName(name),
+            ],
+            to,
+        ),
+        Refusal::NoTransaction { id } => feed_parts(
+            &[
+                MessagePart::Plain(b"transaction "),
+                MessagePart::Number(*id as u128),
+            ],
+            to,
+        ),
+        Refusal::NoAccount { address } => feed_parts(
+            &[
+                MessagePart::Plain(b"account "),
+                MessagePart::Address(address),
+            ],
+            to,
+        ),
+        Refusal::Already { id, by } => feed_parts(
+            &[
+                MessagePart::Plain(b"transaction "),
+                MessagePart::Number(*id as u128),
+                MessagePart::Plain(b" is reverted by "),
+                MessagePart::Number(*by as u128),
+            ],
+            to,
+        ),
+        Refusal::Lack {
+            posting,
+            account,
+            asset,
+            balance,
+            amount,
+        } => feed_parts(
+            &[
+                MessagePart::Plain(b"posting "),
+                MessagePart::Number(*posting as u128),
+                MessagePart::Plain(b": "),
+                MessagePart::Address(account),
+                MessagePart::Plain(b" has "),
+                MessagePart::Balance(balance),
+                MessagePart::Plain(b" "),
+                MessagePart::Asset(asset),
+                MessagePart::Plain(b", needs "),
+                MessagePart::Number(*amount),
+            ],
+            to,
+        ),
+        Refusal::Below {
+            account,
+            asset,
+            balance,
+        } => feed_parts(
+            &[
+                MessagePart::Plain(b"revert: "),
+                MessagePart::Address(account),
+                MessagePart::Plain(b" would have "),
+                MessagePart::Balance(balance),
+                MessagePart::Plain(b" "),
+                MessagePart::Asset(asset),
+            ],
+            to,
+        ),
+        Refusal::Limit { posting } => feed_parts(
+            &[
+                MessagePart::Plain(b"posting "),
+                MessagePart::Number(*posting as u128),
+                MessagePart::Plain(b" passes the limit"),
+            ],
+            to,
+        ),
+        Refusal::SumLimit { asset } => feed_parts(
+            &[
+                MessagePart::Asset(asset),
+                MessagePart::Plain(b" passes the limit"),
+            ],
+            to,
+        ),
+        Refusal::Used { reference, id } => feed_parts(
+            &[
+                MessagePart::Plain(b"reference "),
+                MessagePart::Reference(reference),
+                MessagePart::Plain(b" is used by transaction "),
+                MessagePart::Number(*id as u128),
+            ],
+            to,
+        ),
+        Refusal::Import { line, cause } => feed_parts(
+            &[
+                MessagePart::Plain(b"line "),
+                MessagePart::Number(*line as u128),
+                MessagePart::Plain(b": "),
+                MessagePart::Cause(cause),
+            ],
+            to,
+        ),
         Refusal::NotBuilt => feed_escaped(b"not built", to),
         Refusal::OutOfMemory => feed_escaped(b"out of memory", to),
     }

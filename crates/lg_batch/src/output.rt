@@ -71,7 +71,12 @@ fn feed_entry_line<F: Feed>(line: u64, front: u64, entry: &Entry, to: &mut F) ->
 }
 
 /// Feeds the line of a refusal.
-fn feed_refusal_line<F: Feed>(line: u64, front: u64, refusal: &Refusal, to: &mut F) -> Result<(), Stop>
+fn feed_refusal_line<F: Feed>(
+    line: u64,
+    front: u64,
+    refusal: &Refusal,
+    to: &mut F,
+) -> Result<(), Stop>
     ensures { Feeds F.Feed to.old to.new (line_text line front 0 (refused refusal.now)) result }
 {
     feed_all(
@@ -103,7 +108,12 @@ fn feed_logged<F: Feed>(line: u64, front: u64, event: &Event, to: &mut F) -> Res
 }
 
 /// The same of the event at the front; nothing where there is none.
-fn feed_event_reply<F: Feed>(line: u64, front: u64, events: &[Event], to: &mut F) -> Result<(), Stop>
+fn feed_event_reply<F: Feed>(
+    line: u64,
+    front: u64,
+    events: &[Event],
+    to: &mut F,
+) -> Result<(), Stop>
     ensures { Feeds F.Feed to.old to.new (entry_line line front (slice_get events.now front)) result }
 {
     match events.get(front as usize) {

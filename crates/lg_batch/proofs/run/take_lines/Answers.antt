@@ -9,8 +9,8 @@ loop-line-init g c = rw c.new-takens.ensures.items (start c.args.lines.now _ c.r
 pub loop-line-preserved : goal.loop-line-preserved
 loop-line-preserved g c =
     step_at c.args.lines.now c.loop-line.line-index c.line-item.result _ c.events.result.now _ c.loop-line.takens.items c.push.new.self.items c.call-taken.result
-      c.loop-line.invariant c.loop-line-test.true c.line-item.is c.events.ensures
-      (rw (to_z-of_z w64 c.moment_of.result (record { sfits = c.moment_of.type_inv }) ∙ c.moment_of.ensures) at c.call-taken.ensures) c.in_ok-push.ensures.items
+    c.loop-line.invariant c.loop-line-test.true c.line-item.is c.events.ensures
+    (rw (to_z-of_z w64 c.moment_of.result (record { sfits = c.moment_of.type_inv }) ∙ c.moment_of.ensures) at c.call-taken.ensures) c.in_ok-push.ensures.items
 
 pub returns : goal.returns
 returns g c = finish_at c.args.lines.now c.loop-line.line-index _ _ c.loop-line.invariant c.loop-line-test.false
