@@ -26,7 +26,7 @@ use Rattle.lg_types.specs.Moves.{body_transaction}
 use Rattle.lg_types.proofs.Eachs.{each-map, each-append}
 use Rattle.lg_views.specs.Import.{causes, fault, FollowsFrom, targets_wrong, is_missing, is_misnumbered}
 use Rattle.lg_views.specs.Laws.{NewMetadataShown}
-use Rattle.lg_views.proofs.Tests.{not_false, all_false}
+use Rattle.lg_views.proofs.TestAnswers.{not_false, all_false}
 
 -- ---- a map made of its own pairs
 

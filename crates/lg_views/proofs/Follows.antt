@@ -14,7 +14,7 @@ use Rattle.lg_types.specs.Known.{next_entry, date_after, date}
 use Rattle.lg_types.specs.Moves.{body_transaction}
 use Rattle.lg_views.specs.Import.{causes, fault, FollowsFrom, is_before, has_used_key, is_referred, is_misnumbered, reverts_wrong, targets_wrong, is_over_limit}
 use Rattle.lg_views.specs.Writes.{unsealed, sealed, new_entry}
-use Rattle.lg_views.proofs.Tests.{not_same_bytes, not_same_number, no_cause}
+use Rattle.lg_views.proofs.TestAnswers.{not_same_bytes, not_same_number, no_cause}
 
 -- what may follow a log, and then what may follow all that
 pub follows-join : (g xs ys : List Entry) → FollowsFrom g xs → FollowsFrom (g ++ xs) ys → FollowsFrom g (xs ++ ys)

@@ -24,7 +24,7 @@ use Rattle.lg_views.specs.declared.decided.Written.{Written}
 use Rattle.lg_views.specs.declared.decided.Written.TheVariants.{Refuses, Finds, Appends}
 use Rattle.lg_views.specs.Import.{fault, has_used_key, has_used_reference}
 use Rattle.lg_views.specs.Writes.{decided, granted_unless, is_used, revert_decided, revert_body, if_transaction, marked, appended_if, found_if, found, written_by, written}
-use Rattle.lg_views.proofs.Tests.{not_same_number, none_there, some_there, both_false}
+use Rattle.lg_views.proofs.TestAnswers.{not_same_number, none_there, some_there, both_false}
 use Rattle.lg_views.proofs.Follows.{BodyFits, entry-fits}
 
 abbrev pub IfGranted : (EntryBody → Type 0) → Decided → Type 0

@@ -9,7 +9,7 @@ use Rattle.lg_types.specs.Chain.{input_hash}
 use Rattle.lg_types.specs.Known.{kept, date}
 use Rattle.lg_views.specs.declared.decided.Written.TheVariants.{Refuses, Finds}
 use Rattle.lg_views.specs.Writes.{found_if, written_by, written}
-use Rattle.lg_views.proofs.Tests.{same_bytes}
+use Rattle.lg_views.proofs.TestAnswers.{same_bytes}
 
 found-same : (mark : KeyMark) (given : List ℕ) (e : Entry) → mark.input_hash ≡ given → found_if (Some mark) given e ≡ Finds e
 found-same mark given e h = ap (λ b. cond b (Finds e) (Refuses (KeyInput mark.key mark.input_hash given))) (ap (λ x. bytes_eq x given) h ∙ same_bytes given)

@@ -7,7 +7,7 @@ pub mod Kept
 pub mod Outcomes
 pub mod ReadBack
 pub mod Refused
-pub mod Tests
+pub mod TestAnswers
 pub mod Walks
 pub mod Within
 pub mod FirstViews

@@ -23,7 +23,7 @@ use Rattle.lg_views.specs.Writes.{written, write_answer}
 use Rattle.lg_views.specs.Bulk.{batched}
 use Rattle.lg_views.specs.Outcome.{Task, ToWrite, ToBulk, ToImport, ToRead, answer_on, on_ledger, no_ledger, in_ledger, made_ledger, make_answer, ledger_record, read_answer, is_named, outcome}
 use Rattle.lg_views.specs.Laws.{IsGoodBatch, IsGoodTask, IsGoodCall, AllImportable, OutcomesKeepLogs}
-use Rattle.lg_views.proofs.Tests.{bytes_same}
+use Rattle.lg_views.proofs.TestAnswers.{bytes_same}
 use Rattle.lg_views.proofs.Follows.{follows-join}
 use Rattle.lg_views.proofs.Granted.{Fits, written-fits}
 use Rattle.lg_views.proofs.Batches.{batched-fits, bulk-fits}

@@ -12,7 +12,7 @@ use Rattle.lg_types.specs.Lists.{last_of}
 use Rattle.lg_types.specs.Chain.{own_hash, head, entry_hash}
 use Rattle.lg_views.specs.Import.{Reading, Read, causes, line_causes, line_fault, chained, read_on, first_form, bad_or, checked_from, FollowsFrom, is_other_form}
 use Rattle.lg_views.specs.Laws.{lines_from, ReadsBack}
-use Rattle.lg_views.proofs.Tests.{bytes_same, not_false, AllFalse, no_cause, all_false}
+use Rattle.lg_views.proofs.TestAnswers.{bytes_same, not_false, AllFalse, no_cause, all_false}
 
 last-or_snoc : {A : Type 0} (o : Option A) (xs : List A) (x : A) → last_or o (xs ++ x ∷ []) ≡ Some x
 last-or_snoc o [] x = refl

@@ -24,7 +24,7 @@ use Rattle.lg_views.specs.Pages.{after_place, next_place}
 use Rattle.lg_views.specs.Pairs.{with_names, in_byte_order}
 use Rattle.lg_views.specs.Reads.{whole_accounts, whole_transactions, whole_entries, is_after_name, is_after_transaction, is_after_entry, transaction_place, entry_place, account_passes, accounts_at, transaction_passes, is_effective_at, entry_passes, is_dated_to}
 use Rattle.lg_views.specs.PageLaws.{walk_on, walk, IsLater, IsInOrder, AccountPages, EntryPages, TransactionPages}
-use Rattle.lg_views.proofs.Tests.{not_false, all_false}
+use Rattle.lg_views.proofs.TestAnswers.{not_false, all_false}
 use Rattle.lg_views.proofs.ReadBack.{last-snoc}
 
 each-at : {A : Type 0} (Q : A → Type 0) (xs ys : List A) (x : A) → Each Q (xs ++ x ∷ ys) → Q x

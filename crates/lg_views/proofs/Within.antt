@@ -13,7 +13,7 @@ use Rattle.lg_types.proofs.Limits.{total-tried, within-tried, within-test}
 use Rattle.lg_types.proofs.MoveSums.{moves-snoc}
 use Rattle.lg_views.specs.Import.{causes, FollowsFrom, IsImportable, is_over_limit}
 use Rattle.lg_views.specs.Laws.{VolumesWithinLimit}
-use Rattle.lg_views.proofs.Tests.{all_false}
+use Rattle.lg_views.proofs.TestAnswers.{all_false}
 
 none_from : {A : Type 0} (o : Option A) → is_some o ≡ false → o ≡ None
 none_from None h = refl
