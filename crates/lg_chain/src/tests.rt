@@ -44,27 +44,26 @@ fn entry(
     })
 }
 
-#[test]
-fn a_creation_is_hashed_by_its_text(rt: HostRuntime) -> Result<(), Fail> {
-    let alloc = rt.alloc();
-    let first = entry(alloc, 1, 0, 0, (b"world", b"users:1"), 100)
-        .ok()
-        .ok_or("entry")?;
-    let EntryBody::NewTransaction {
-        transaction,
-        accounts,
-    } = first.body
-    else {
-        return Err("body")?;
+fn creation(alloc: Global) -> Result<Write, NameFault> {
+    let posting = Posting {
+        source: Address::read(alloc, b"world")?,
+        destination: Address::read(alloc, b"users:1")?,
+        asset: Asset::read(alloc, b"USD/2")?,
+        amount: Amount::of(100).ok_or(NameFault::NoMemory)?,
     };
-    let write = Write::Create {
-        postings: transaction.postings,
+    Ok(Write::Create {
+        postings: Postings::of(alloc, posting)?,
         reference: None,
         timestamp: None,
-        metadata: transaction.metadata,
-        accounts,
+        metadata: Meta::new(alloc),
+        accounts: AccountMeta::new(alloc),
         force: false,
-    };
+    })
+}
+
+#[test]
+fn a_creation_is_hashed_by_its_text(rt: HostRuntime) -> Result<(), Fail> {
+    let write = creation(rt.alloc())?;
     assert_eq!(rt;
         input_hash(&write),
         [
