@@ -1,38 +1,9 @@
-//! Copies of replies, with ample memory.
+//! Copies of results, with ample memory.
 
 use crate::*;
 use lg_containers::{Address, Asset, Duplicate};
 use lg_types::Refusal;
 use std::test::Fail;
-
-#[test]
-fn copies_of_replies(rt: HostRuntime) -> Result<(), Fail> {
-    let mut balances = BalanceList::new(rt.alloc());
-    balances.push(BalanceItem {
-        asset: Asset::read(rt.alloc(), b"EUR")?,
-        balance: 7,
-    })?;
-    let answer = Answer {
-        front: 3,
-        events: 0,
-        reply: Reply {
-            hit: true,
-            content: Content::Balances(balances),
-        },
-    };
-    let copied = answer.copy(rt.alloc())?;
-    assert_eq!(rt; copied.front, 3);
-    assert!(rt; copied.reply.hit);
-    match copied.reply.content {
-        Content::Balances(items) => {
-            let item = items.get(0).expect(&rt, "one balance");
-            assert_eq!(rt; item.asset.bytes(), b"EUR".as_slice());
-            assert_eq!(rt; item.balance, 7);
-        }
-        _ => assert!(rt; false),
-    }
-    Ok(())
-}
 
 #[test]
 fn copies_of_results(rt: HostRuntime) -> Result<(), Fail> {
