@@ -5,8 +5,6 @@ mod adapters;
 mod errors;
 mod limits;
 mod program;
-#[cfg(test)]
-mod tests;
 mod words;
 
 use adapters::{ReadSource, WriteSink};
