@@ -4,6 +4,7 @@ pub mod Granted
 pub mod Histories
 pub mod Imported
 pub mod Kept
+pub mod ListWalks
 pub mod Outcomes
 pub mod ReadBack
 pub mod Refused

@@ -99,7 +99,7 @@ module _ {P A : Type 0} (is_after : P → A → Bool) (place : A → P) (size : 
 
 -- ---- lists in order
 
-each-filter : {A : Type 0} (Q : A → Type 0) (p : A → Bool) (xs : List A) → Each Q xs → Each Q (filter p xs)
+pub each-filter : {A : Type 0} (Q : A → Type 0) (p : A → Bool) (xs : List A) → Each Q xs → Each Q (filter p xs)
 each-filter Q p [] h = tt
 each-filter Q p (x ∷ xs) h = by_test (p x) (each-filter Q p xs h.1)
   where
@@ -115,7 +115,7 @@ pairs-filter R p (x ∷ xs) h = by_test (p x) (pairs-filter R p xs h.1)
     by_test true k = (each-filter (R x) p xs h.0, k)
     by_test false k = k
 
-pairs-append : {A : Type 0} (R : A → A → Type 0) (xs ys : List A) → Pairs R xs → Pairs R ys → Each (λ x. Each (R x) ys) xs → Pairs R (xs ++ ys)
+pub pairs-append : {A : Type 0} (R : A → A → Type 0) (xs ys : List A) → Pairs R xs → Pairs R ys → Each (λ x. Each (R x) ys) xs → Pairs R (xs ++ ys)
 pairs-append R [] ys h k m = k
 pairs-append R (x ∷ xs) ys h k m = (each-append (R x) xs ys h.0 m.0, pairs-append R xs ys h.1 k m.1)
 
@@ -139,10 +139,10 @@ equal_itself Less h = absurd (let f : Less ≡ Greater = h in cc)
 equal_itself Equal h = refl
 equal_itself Greater h = refl
 
-not_after_itself : (x : List ℕ) → is_lt (name_order x x) ≡ false
+pub not_after_itself : (x : List ℕ) → is_lt (name_order x x) ≡ false
 not_after_itself x = equal_itself (name_order x x) (nat_list_cmp_total.antisymm x x)
 
-turned : (o : Ordering) → is_lt o ≡ true → is_lt (ordering_reverse o) ≡ false
+pub turned : (o : Ordering) → is_lt o ≡ true → is_lt (ordering_reverse o) ≡ false
 turned Less h = refl
 turned Equal h = absurd (let f : false ≡ true = h in cc)
 turned Greater h = absurd (let f : false ≡ true = h in cc)
@@ -150,15 +150,15 @@ turned Greater h = absurd (let f : false ≡ true = h in cc)
 name-later : (x y : List ℕ) → is_lt (name_order x y) ≡ true → IsLater is_after_name AddressPlace x y
 name-later x y h = (h, ap is_lt (nat_list_cmp_total.antisymm y x) ∙ turned (name_order x y) h)
 
-from_T : (b : Bool) → T b → b ≡ true
+pub from_T : (b : Bool) → T b → b ≡ true
 from_T true h = refl
 from_T false h = absurd h
 
-and_first : (a b : Bool) → T (a && b) → T a
+pub and_first : (a b : Bool) → T (a && b) → T a
 and_first true b h = tt
 and_first false b h = absurd h
 
-and_second : (a b : Bool) → T (a && b) → T b
+pub and_second : (a b : Bool) → T (a && b) → T b
 and_second true b h = h
 and_second false b h = absurd h
 
@@ -185,10 +185,10 @@ account_pages g q some =
 
 -- ---- entries
 
-not_below : (n : ℕ) → nat_lt n n ≡ false
+pub not_below : (n : ℕ) → nat_lt n n ≡ false
 not_below n = grind (arith, nat_tests)
 
-falling : (m n : ℕ) → n < m → (nat_lt n m ≡ true) × (nat_lt m n ≡ false)
+pub falling : (m n : ℕ) → n < m → (nat_lt n m ≡ true) × (nat_lt m n ≡ false)
 falling m n h = (grind (arith, nat_tests, h), grind (arith, nat_tests, h))
 
 abbrev IsSooner : Entry → Entry → Type 0

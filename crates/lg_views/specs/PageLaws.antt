@@ -3,10 +3,11 @@ use Rattle.std.specs.Prelude.{◌≡◌, ℕ, zero, suc, ◌<◌, Bool, true, fa
 use Rattle.lg_types.specs.declared.queries.Query.{Query}
 use Rattle.lg_types.specs.declared.filters.After.TheVariants.{Address as AddressPlace}
 use Rattle.lg_types.specs.declared.records.Entry.{Entry}
+use Rattle.lg_types.specs.declared.records.Event.{Event}
 use Rattle.lg_types.specs.Lists.{Pairs}
 use Rattle.lg_views.specs.Import.{IsImportable}
 use Rattle.lg_views.specs.Pages.{after_place, next_place}
-use Rattle.lg_views.specs.Reads.{whole_accounts, whole_transactions, whole_entries, is_after_name, is_after_transaction, is_after_entry, transaction_place, entry_place}
+use Rattle.lg_views.specs.Reads.{whole_accounts, whole_transactions, whole_entries, whole_volumes, whole_ledgers, is_after_name, is_after_transaction, is_after_entry, is_after_pair, is_after_ledger, transaction_place, entry_place, volume_place, ledger_place}
 
 -- what a page shows, and what comes from its last place on
 abbrev pub walk_on : {P A : Type 0} → List A → Option P → (P → List A) → List A
@@ -36,3 +37,10 @@ EntryPages = (g : List Entry) (q : Query) → IsImportable g → 0 < q.page_size
 
 abbrev pub TransactionPages : Type 0
 TransactionPages = (g : List Entry) (q : Query) → IsImportable g → 0 < q.page_size → walk is_after_transaction transaction_place q.page_size (length (whole_transactions g q)) None (whole_transactions g q) ≡ whole_transactions g q
+
+-- and those of volumes, and of ledgers
+abbrev pub VolumePages : Type 0
+VolumePages = (g : List Entry) (q : Query) → 0 < q.page_size → walk is_after_pair volume_place q.page_size (length (whole_volumes g q)) None (whole_volumes g q) ≡ whole_volumes g q
+
+abbrev pub LedgerPages : Type 0
+LedgerPages = (events : List Event) (q : Query) → 0 < q.page_size → walk is_after_ledger ledger_place q.page_size (length (whole_ledgers events q)) None (whole_ledgers events q) ≡ whole_ledgers events q

@@ -1,6 +1,6 @@
 //! Laws of the definitions. Each function's contract is a law; there is nothing to run.
 
-ghost use Rattle.lg_views.specs.PageLaws.{AccountPages, EntryPages, TransactionPages};
+ghost use Rattle.lg_views.specs.PageLaws.{AccountPages, EntryPages, TransactionPages, VolumePages, LedgerPages};
 ghost use Rattle.lg_views.specs.Laws.{OutcomesKeepLogs, LegalLogsImportable, AloneIsLegal, ReadsBack, RefusedAppendsNothing, ChecksImportable, ImportedAnswersAlike, AnsweredByOneLog, VolumesWithinLimit, NewMetadataShown};
 
 /// Every outcome of every call, lists of writes and imports included, keeps every ledger's log importable.
@@ -59,6 +59,13 @@ pub fn account_pages()
 pub fn log_pages()
     ensures entries { EntryPages }
     ensures transactions { TransactionPages }
+{}
+
+/// So it does for volumes by account and asset, and for ledgers.
+#[tactic(auto, using(crate::proofs::ListWalks::volume_pages, crate::proofs::ListWalks::ledger_pages))]
+pub fn list_pages()
+    ensures volumes { VolumePages }
+    ensures ledgers { LedgerPages }
 {}
 
 /// In an importable log no input and no output passes the limit, at any date and in either order.
