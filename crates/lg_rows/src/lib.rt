@@ -3,6 +3,7 @@
 
 mod keys;
 mod lists;
+mod requests;
 
 ghost use Rattle.std.specs.Prelude.{◌≡◌};
 ghost use Rattle.lg_rows.specs.Scenes.{day};
@@ -10,6 +11,7 @@ ghost use Rattle.lg_rows.specs.Rows.{FirstCreation, LackedFunds, RefusedWithoutE
 
 pub use keys::{imports, key_not_kept, ledgers, nothing_moves, repeated_key, reverted_there};
 pub use lists::{groups_and_sums, lists_of_writes, pages, past_limit};
+pub use requests::{decoded_path, filter_faults, refused_creations, unrouted_requests};
 
 /// A creation on an empty product, with its four volumes.
 #[tactic(auto, unfolding(crate::specs::Rows::computed))]
