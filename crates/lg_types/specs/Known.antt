@@ -73,17 +73,16 @@ markings g = flat_map entry_markings g
 abbrev pub is_marking_of : List ℕ → Marking → Bool
 is_marking_of key m = bytes_eq m.mark.key key
 
--- the first entry that has the key
 abbrev pub is_mark_of : List ℕ → KeyMark → Bool
 is_mark_of key k = bytes_eq k.key key
 
 abbrev pub has_key : List ℕ → Entry → Bool
 has_key key e = list_any (is_mark_of key) (entry_keys e)
 
+-- the first entry that has the key
 abbrev pub kept : List Entry → List ℕ → Option Entry
 kept g key = find (has_key key) g
 
--- the id of the transaction that has the reference
 abbrev pub is_referred_as : List ℕ → Referred → Bool
 is_referred_as reference r = bytes_eq r.reference reference
 
@@ -93,6 +92,7 @@ transaction_of r = r.transaction
 abbrev pub references : List Entry → List Referred
 references g = flat_map entry_references g
 
+-- the id of the transaction that has the reference
 abbrev pub used : List Entry → List ℕ → Option ℕ
 used g reference = option_map transaction_of (find (is_referred_as reference) (references g))
 

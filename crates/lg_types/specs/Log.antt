@@ -24,11 +24,11 @@ is_made_as ledger (Logged name e) = false
 abbrev pub is_there : List Event → List ℕ → Bool
 is_there events ledger = list_any (is_made_as ledger) events
 
--- the ledgers, in the order in which they were made
 abbrev pub made : Event → List LedgerInfo
 made (Made info) = info ∷ []
 made (Logged name e) = []
 
+-- the ledgers, in the order in which they were made
 abbrev pub ledgers : List Event → List LedgerInfo
 ledgers events = flat_map made events
 

@@ -1,6 +1,7 @@
 //! The records of a ledger, and the definitions that every contract above cites.
 #![tactic(auto)]
 
+mod balances;
 mod call_parts;
 mod call_texts;
 mod calls;
@@ -23,6 +24,7 @@ mod record_texts;
 mod records;
 mod refusals;
 
+pub use balances::Balances;
 pub use call_parts::CallPart;
 pub use call_texts::call_text;
 pub use calls::{Batch, Call, Element, ElementWrite, Write};

@@ -1,4 +1,4 @@
-//! The texts of writes, and the calls of lists, once each with ample memory.
+//! The texts of writes and of metadata, and the calls of lists, once each with ample memory.
 
 use crate::*;
 use lg_base::{ByteFeed, Feed};
@@ -54,6 +54,29 @@ fn text_of_a_revert(rt: HostRuntime) -> Result<(), Fail> {
     assert_eq!(rt;
         to.into_bytes().as_slice(),
         b"{\"action\":\"REVERT_TRANSACTION\",\"data\":{\"id\":1,\"force\":true,\"atEffectiveDate\":false}}".as_slice()
+    );
+    Ok(())
+}
+
+#[test]
+fn text_of_metadata(rt: HostRuntime) -> Result<(), Fail> {
+    let mut metadata = Meta::new(rt.alloc());
+    let name = Text::read(rt.alloc(), b"\"\\/\x08\x0c")?;
+    let value = Text::read(rt.alloc(), b"\x0a\x0d\x09\x01\x1f\x7f\xc3\xa9")?;
+    metadata.put(name, value)?;
+    let target = Target::Transaction(7);
+    let entry = Entry {
+        id: 2,
+        date: 0,
+        mark: None,
+        body: EntryBody::SetMetadata { target, metadata },
+        hash: [0; 32],
+    };
+    let mut to = ByteFeed::new(rt.alloc());
+    entry_text(&entry, EntryForm::Chained, &mut to).expect(&rt, "memory");
+    assert_eq!(rt;
+        to.into_bytes().as_slice(),
+        b"{\"type\":\"SET_METADATA\",\"data\":{\"targetType\":\"TRANSACTION\",\"targetId\":7,\"metadata\":{\"\\\"\\\\/\\b\\f\":\"\\n\\r\\t\\u0001\\u001f\x7f\xc3\xa9\"}},\"date\":\"1970-01-01T00:00:00Z\",\"form\":2,\"id\":2}".as_slice()
     );
     Ok(())
 }
