@@ -16,7 +16,8 @@ use Rattle.lg_views.specs.Outcome.{outcome}
 use Rattle.lg_views.specs.declared.answers.Answer.{Answer}
 use Rattle.lg_views.specs.declared.lines.ScriptLine.{ScriptLine}
 use Rattle.lg_views.specs.declared.replies.Reply.{Reply}
-use Rattle.lg_batch.specs.Output.{line_text, reply_line, event_lines}
+use Rattle.lg_views.specs.Output.{line_text, event_lines}
+use Rattle.lg_batch.specs.Output.{reply_line}
 use Rattle.lg_batch.specs.Running.{without_volumes, entry_reply, Takes, Appends, Refuses}
 use Rattle.lg_batch.specs.Runs.{RunsTo, IsOutputOf}
 use Rattle.lg_batch.specs.TakenTexts.{taken_text, taken_line, taken_output, entry_line}

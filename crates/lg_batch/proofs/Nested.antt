@@ -3,7 +3,7 @@ use Rattle.std.proofs.Common.{◌≡◌, ℕ, List, [], ◌∷◌, ◌++◌, fla
 use Rattle.std.specs.Prelude.{codes, Bool, true, false, ◌==◌}
 use Rattle.std.proofs.lemmas.Grind.{flat_map-append}
 use Rattle.std.proofs.lemmas.List.{get_or_default}
-use Rattle.lg_batch.specs.ReplyTexts.{member_text}
+use Rattle.lg_views.specs.RefusalTexts.{member_text}
 
 pub nested : {X Y Z : Type 0} (f : X → List Y) (h : Y → List Z) (xs : List X) → flat_map (λ x. flat_map h (f x)) xs ≡ flat_map h (flat_map f xs)
 nested f h [] = refl

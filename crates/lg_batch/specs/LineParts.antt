@@ -1,7 +1,8 @@
 -- The texts of the pieces of a reply's line.
 use Rattle.std.specs.Prelude.{ℕ, List, decimal}
 use Rattle.lg_types.specs.PartTexts.{part_text}
-use Rattle.lg_batch.specs.ReplyTexts.{status_of, body_text, refusal_status, refusal_text}
+use Rattle.lg_views.specs.RefusalTexts.{refusal_status, refusal_text}
+use Rattle.lg_views.specs.ReplyTexts.{status_of, body_text}
 use Rattle.lg_batch.specs.Running.{entry_reply}
 use Rattle.lg_batch.specs.declared.line_parts.LinePart.{LinePart}
 use Rattle.lg_batch.specs.declared.line_parts.LinePart.TheVariants.{Base, EntryStatus, EntryBody, RefusalStatus, RefusalBody}

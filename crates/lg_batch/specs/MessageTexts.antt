@@ -3,7 +3,7 @@ use Rattle.std.specs.Prelude.{ℕ, List, decimal}
 use Rattle.std.specs.Fmt.{signed_decimal}
 use Rattle.std.specs.List.{flat_map}
 use Rattle.lg_base.specs.Texts.{escaped}
-use Rattle.lg_batch.specs.ReplyTexts.{member_text, hex_text, fault_text, reason_text, cause_text}
+use Rattle.lg_views.specs.RefusalTexts.{member_text, hex_text, fault_text, reason_text, cause_text}
 use Rattle.lg_batch.specs.declared.message_parts.MessagePart.{MessagePart}
 use Rattle.lg_batch.specs.declared.message_parts.MessagePart.TheVariants.{Plain, Address, Asset, LedgerName, Key, Reference, Text, Member, Number, Balance, Hash, Fault, Reason, Cause}
 

@@ -1,7 +1,7 @@
 -- The texts of the pieces of a refusal's body.
 use Rattle.std.specs.Prelude.{ℕ, List}
 use Rattle.lg_base.specs.Texts.{quoted}
-use Rattle.lg_batch.specs.ReplyTexts.{code_of, message_text}
+use Rattle.lg_views.specs.RefusalTexts.{code_of, message_text}
 use Rattle.lg_batch.specs.declared.refusal_parts.RefusalPart.{RefusalPart}
 use Rattle.lg_batch.specs.declared.refusal_parts.RefusalPart.TheVariants.{Plain, Code, Message}
 

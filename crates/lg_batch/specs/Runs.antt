@@ -8,7 +8,7 @@ use Rattle.lg_views.specs.History.{Alone}
 use Rattle.lg_views.specs.declared.answers.Answer.{Answer}
 use Rattle.lg_views.specs.declared.lines.ScriptLine.{ScriptLine}
 use Rattle.lg_batch.specs.Buffered.{HoldsWhole, HoldsFront}
-use Rattle.lg_batch.specs.Output.{reply_line, script_output}
+use Rattle.lg_batch.specs.Output.{reply_line, built_output}
 use Rattle.lg_batch.specs.Running.{IsBuilt}
 use Rattle.lg_batch.specs.TakenTexts.{taken_line}
 use Rattle.lg_batch.specs.declared.run_end.RunEnd.{RunEnd}
@@ -29,7 +29,7 @@ pub record IsOutputOf (lines : List ScriptLine) (output : List ℕ) : Type 0 whe
   pub events : List Event
   pub answers : List Answer
   pub alone : Alone events lines answers
-  pub output_is : output ≡ script_output events lines answers
+  pub output_is : output ≡ built_output events lines answers
 
 -- how a run of the lines ends: with all of the output written; with a front of it where the sink failed; with nothing
 abbrev pub EndsRun : {K : Type 0} → SinkGhosts K → List ScriptLine → K → K → RunEnd → Type 0

@@ -5,7 +5,7 @@ use Rattle.lg_types.specs.declared.records.Event.{Event}
 use Rattle.lg_types.specs.declared.records.Event.TheVariants.{Made, Logged}
 use Rattle.lg_views.specs.Replies.{refused}
 use Rattle.lg_batch.specs.Running.{entry_reply}
-use Rattle.lg_batch.specs.Output.{line_text, event_lines}
+use Rattle.lg_views.specs.Output.{line_text, event_lines}
 use Rattle.lg_batch.specs.declared.taken.Taken.{Taken}
 use Rattle.lg_batch.specs.declared.taken.Taken.TheVariants.{Appended, Refused}
 use Rattle.lg_batch.specs.declared.taken_lines.TakenLine.{TakenLine}

@@ -6,7 +6,7 @@ ghost use Rattle.std.specs.List.{flat_map};
 ghost use Rattle.lg_base.specs.Feeding.{Feeds};
 ghost use Rattle.lg_base.specs.Texts.{escaped, hex_digit as hex_digit_of};
 ghost use Rattle.lg_batch.specs.MessageTexts.{message_part_text, escaped_part};
-ghost use Rattle.lg_batch.specs.ReplyTexts.{member_text, hex_byte, hex_text, fault_text, reason_text, cause_text, message_text};
+ghost use Rattle.lg_views.specs.RefusalTexts.{member_text, hex_byte, hex_text, fault_text, reason_text, cause_text, message_text};
 
 use crate::message_parts::MessagePart;
 use itoa::Buffer;

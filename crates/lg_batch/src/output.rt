@@ -8,8 +8,8 @@ ghost use Rattle.lg_batch.specs.Buffered.{WritesThrough};
 ghost use Rattle.lg_views.specs.Replies.{refused};
 ghost use Rattle.lg_batch.specs.Running.{entry_reply};
 ghost use Rattle.lg_batch.specs.LineParts.{line_part_text};
-ghost use Rattle.lg_batch.specs.ReplyTexts.{status_of};
-ghost use Rattle.lg_batch.specs.Output.{line_text, event_line, event_lines};
+ghost use Rattle.lg_views.specs.ReplyTexts.{status_of};
+ghost use Rattle.lg_views.specs.Output.{line_text, event_line, event_lines};
 ghost use Rattle.lg_batch.specs.TakenTexts.{entry_line, taken_line, taken_output};
 
 use crate::line_parts::LinePart;

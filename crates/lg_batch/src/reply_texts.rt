@@ -3,7 +3,9 @@
 ghost use Rattle.std.specs.Prelude.{◌≡◌};
 ghost use Rattle.lg_base.specs.Feeding.{Feeds};
 ghost use Rattle.lg_base.specs.Texts.{quoted};
-ghost use Rattle.lg_batch.specs.ReplyTexts.{code_of as code_of_refusal, refusal_status as status_of_refusal, message_text, refusal_text, view_text, data_text, body_text};
+ghost use Rattle.lg_views.specs.RefusalTexts.{code_of as code_of_refusal, refusal_status as status_of_refusal, message_text, refusal_text};
+ghost use Rattle.lg_views.specs.ViewTexts.{transaction_view_text};
+ghost use Rattle.lg_views.specs.ReplyTexts.{data_text, body_text};
 ghost use Rattle.lg_batch.specs.RefusalParts.{refusal_part_text};
 ghost use Rattle.lg_batch.specs.Running.{entry_view, entry_reply};
 
@@ -123,7 +125,7 @@ fn feed_view<'a, F: Feed>(
     date: &'a i64,
     to: &mut F,
 ) -> Result<(), Stop>
-    ensures { Feeds F.Feed to.old to.new (view_text (entry_view date.now transaction.now)) result }
+    ensures { Feeds F.Feed to.old to.new (transaction_view_text (entry_view date.now transaction.now)) result }
 {
     feed_all(
         &[
@@ -150,7 +152,7 @@ fn feed_data<'a, F: Feed>(
     date: &'a i64,
     to: &mut F,
 ) -> Result<(), Stop>
-    ensures { Feeds F.Feed to.old to.new (data_text (entry_view date.now transaction.now)) result }
+    ensures { Feeds F.Feed to.old to.new (data_text (transaction_view_text (entry_view date.now transaction.now))) result }
 {
     to.piece(b"{\"data\":")?;
     feed_view(transaction, date, to)?;

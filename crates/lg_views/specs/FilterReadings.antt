@@ -1,5 +1,5 @@
 -- Which filter a JSON value shows, for each list, and where the first fault of one that shows none stands.
-use Rattle.std.specs.Prelude.{◌≡◌, ◌⊎◌, ℕ, ◌+◌, Bool, true, false, ◌||◌, MatchBool, List, [], ◌∷◌, ◌++◌, Option, Some, None, Ok, Err, codes}
+use Rattle.std.specs.Prelude.{◌≡◌, ◌⊎◌, ℕ, ◌+◌, Bool, true, false, ◌||◌, MatchBool, IsUtf8, List, [], ◌∷◌, ◌++◌, Option, Some, None, Ok, Err, codes}
 use Rattle.std.specs.Str.{bytes_eq}
 use Rattle.lg_containers.specs.AssetGrammar.{IsAsset}
 use Rattle.lg_json.specs.Tree.{Tree, Trees, Members}
@@ -73,15 +73,16 @@ has_metadata Volumes = true
 has_metadata Aggregate = true
 has_metadata kind = false
 
--- an asset in brackets is of its grammar
+-- what stands in brackets is of its grammar
 abbrev pub IsFieldInGrammar : Field → Type 0
+IsFieldInGrammar (field.Metadata name) = IsUtf8 name
 IsFieldInGrammar (field.Balance asset) = IsAsset asset
 IsFieldInGrammar f = Unit {0}
 
 -- the value that is compared with a field: whole numbers with ids and balances, moments with dates, truths with `reverted`, and
 -- texts with all other fields
 abbrev pub ShowsText : Tree → Value → Type 0
-ShowsText (text t) v = v ≡ value.Text t
+ShowsText (text t) v = IsUtf8 t × (v ≡ value.Text t)
 ShowsText shown v = ⊥
 
 abbrev pub ShowsWhole : Tree → Value → Type 0
@@ -117,7 +118,7 @@ abbrev mutual
   pub IsFilter : ListKind → Filter → Tree → Type 0
   IsFilter kind All t = t ≡ members no_member
   IsFilter kind (Compare op f v) t = IsComparison kind op f v t
-  IsFilter kind (Has name) t = (has_metadata kind ≡ true) × (t ≡ one (codes "$exists") (one (codes "metadata") (text name)))
+  IsFilter kind (Has name) t = (has_metadata kind ≡ true) × IsUtf8 name × (t ≡ one (codes "$exists") (one (codes "metadata") (text name)))
   IsFilter kind (Both' shape filters) t = (ts : Trees) × (t ≡ one (codes "$and") (list ts)) × AreFilters kind filters ts
   IsFilter kind (Either' shape filters) t = (ts : Trees) × (t ≡ one (codes "$or") (list ts)) × AreFilters kind filters ts
   IsFilter kind (Not' shape filter) t = (shown : Tree) × (t ≡ one (codes "$not") shown) × AreFilters kind filter (item shown none)
@@ -131,7 +132,7 @@ abbrev mutual
 
 -- an operator over one field, or over a name of metadata
 abbrev pub IsLeaf : ListKind → Tree → Type 0
-IsLeaf kind t = ((op : Op) × (f : Field) × (v : Value) × IsComparison kind op f v t) ⊎ ((name : List ℕ) × (has_metadata kind ≡ true) × (t ≡ one (codes "$exists") (one (codes "metadata") (text name))))
+IsLeaf kind t = ((op : Op) × (f : Field) × (v : Value) × IsComparison kind op f v t) ⊎ ((name : List ℕ) × (has_metadata kind ≡ true) × IsUtf8 name × (t ≡ one (codes "$exists") (one (codes "metadata") (text name))))
 
 abbrev pub LeafFault : ListKind → Path → Tree → Option (List ℕ) → Type 0
 LeafFault kind path t r = (IsLeaf kind t × (r ≡ None)) ⊎ ((¬ (IsLeaf kind t)) × (r ≡ Some (path_text path)))
@@ -163,7 +164,12 @@ abbrev mutual
 -- ---- readings
 
 -- the filter that a value shows, or the refusal of its first fault
-abbrev pub FilterOf : ListKind → Tree → Answer Filter → Type 0
-FilterOf kind t r =
+abbrev pub FilterIn : ListKind → Tree → Answer Filter → Type 0
+FilterIn kind t r =
     ((filter : Filter) × IsFilter kind filter t × (r ≡ Ok filter))
     ⊎ ((path : List ℕ) × FilterFault kind top t (Some path) × (r ≡ Err (BadFilter path)))
+
+-- the filter of a body; all items where the body is absent
+abbrev pub FilterOf : ListKind → Tree → Answer Filter → Type 0
+FilterOf kind null r = r ≡ Ok All
+FilterOf kind t r = FilterIn kind t r

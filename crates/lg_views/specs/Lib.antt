@@ -10,6 +10,7 @@ pub mod History
 pub mod Import
 pub mod Laws
 pub mod Outcome
+pub mod Output
 pub mod PageLaws
 pub mod Pages
 pub mod Pairs

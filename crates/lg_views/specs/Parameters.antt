@@ -13,12 +13,12 @@ bad_parameter name = Err (ParameterRefusal name)
 
 -- ---- moments
 
-abbrev pub MomentIn : List ℕ → Option (List ℕ) → Answer (Option ℤ) → Type 0
-MomentIn name None r = r ≡ Ok None
-MomentIn name (Some t) r = ((moment : ℤ) × IsMoment t moment × (r ≡ Ok (Some moment))) ⊎ (((moment : ℤ) → ¬ (IsMoment t moment)) × (r ≡ bad_parameter name))
+abbrev pub MomentValue : List ℕ → Option (List ℕ) → Answer (Option ℤ) → Type 0
+MomentValue name None r = r ≡ Ok None
+MomentValue name (Some t) r = ((moment : ℤ) × IsMoment t moment × (r ≡ Ok (Some moment))) ⊎ (((moment : ℤ) → ¬ (IsMoment t moment)) × (r ≡ bad_parameter name))
 
 abbrev pub MomentParameter : List ℕ → List Parameter → Answer (Option ℤ) → Type 0
-MomentParameter name ps = MomentIn name (first_value name ps)
+MomentParameter name ps = MomentValue name (first_value name ps)
 
 -- ---- truths: `true` or `1`, `false` or `0`, in any letter case
 
@@ -92,12 +92,12 @@ is_recompute (Some t) = bytes_eq t (codes "recompute")
 
 -- ---- parameters that no request may have
 
-abbrev pub is_there : List ℕ → List Parameter → Bool
-is_there name ps = is_some (first_value name ps)
+abbrev pub has_parameter : List ℕ → List Parameter → Bool
+has_parameter name ps = is_some (first_value name ps)
 
 abbrev pub no_order : List Parameter → Answer (Unit {0})
 no_order ps =
-    if is_there (codes "order") ps then bad_parameter (codes "order")
-    else (if is_there (codes "sort") ps then bad_parameter (codes "sort")
-    else (if is_there (codes "reverse") ps then bad_parameter (codes "reverse")
+    if has_parameter (codes "order") ps then bad_parameter (codes "order")
+    else (if has_parameter (codes "sort") ps then bad_parameter (codes "sort")
+    else (if has_parameter (codes "reverse") ps then bad_parameter (codes "reverse")
     else Ok tt))

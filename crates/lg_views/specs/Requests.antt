@@ -1,11 +1,10 @@
 -- The call of a request: route, method, the names of the path, parameters, key and body, in this order; the first refusal counts.
-use Rattle.std.specs.Prelude.{◌≡◌, ◌⊎◌, ℕ, ◌<◌, ◌^◌, ℤ, Bool, true, false, ◌&&◌, List, [], ◌∷◌, Option, Some, None, is_some, IsUtf8, Ok, Err, if◌then◌else◌, codes, decimal}
+use Rattle.std.specs.Prelude.{◌≡◌, ◌⊎◌, ℕ, ◌<◌, ◌^◌, ℤ, false, ◌&&◌, List, [], ◌∷◌, Option, Some, None, IsUtf8, Ok, Err, codes, decimal}
 use Rattle.std.specs.List.{find}
-use Rattle.std.specs.Option.{option_map}
 use Rattle.lg_containers.specs.AddressGrammar.{IsAddress}
 use Rattle.lg_containers.specs.CountedGrammar.{IsLedgerName, IsKey}
 use Rattle.lg_json.specs.Tree.{Tree}
-use Rattle.lg_json.specs.Tree.Tree.{null, truth, whole, part, text, list, members}
+use Rattle.lg_json.specs.Tree.Tree.{null}
 use Rattle.lg_types.specs.declared.calls.Batch.{Batch}
 use Rattle.lg_types.specs.declared.calls.Batch.TheVariants.{Ready}
 use Rattle.lg_types.specs.declared.calls.Call.{Call}
@@ -24,43 +23,45 @@ use Rattle.lg_types.specs.declared.records.Target.{Target}
 use Rattle.lg_types.specs.declared.records.Target.TheVariants.{Account, Transaction}
 use Rattle.lg_types.specs.declared.refusals.FaultKind.{FaultKind}
 use Rattle.lg_types.specs.declared.refusals.Reason.TheVariants.{Kind, Form}
-use Rattle.lg_types.specs.declared.refusals.Refusal.TheVariants.{NoRoute, Method, BodyJson}
+use Rattle.lg_types.specs.declared.refusals.Refusal.TheVariants.{NoRoute, Method, BodyJson, OutOfMemory}
 use Rattle.lg_views.specs.Answers.{Answer, wrong, known, gives, ◌>>=◌, IfForm}
 use Rattle.lg_views.specs.Bodies.{Creation, texts_of, LedgerOf, revert_of}
 use Rattle.lg_views.specs.Elements.{ElementsOf}
 use Rattle.lg_views.specs.FilterReadings.{FilterOf}
-use Rattle.lg_views.specs.Parameters.{MomentParameter, truth_parameter, unless_true, PageSize, GroupBy, expand_parameter, hashes_parameter, no_order, bad_parameter}
-use Rattle.lg_views.specs.Paths.{Path, top}
+use Rattle.lg_views.specs.Parameters.{MomentParameter, truth_parameter, unless_true, PageSize, GroupBy, expand_parameter, hashes_parameter, no_order}
+use Rattle.lg_views.specs.Paths.{top}
 use Rattle.lg_views.specs.Routes.{Route, Row, ListLedgers, MakeLedger, ShowLedger, ListAccounts, ShowAccount, SetAccountMetadata, DropAccountMetadata, ListTransactions, CreateTransaction, ShowTransaction, SetTransactionMetadata, DropTransactionMetadata, RevertTransaction, RunBulk, ListLogs, ExportLogs, ImportLogs, ListVolumes, AggregateBalances, ShowStats, routes_at, has_method, names_in}
 use Rattle.lg_views.specs.Targets.{Parameter, path_segments, parameters, first_value}
 use Rattle.lg_views.specs.TokenReadings.{TokenQuery}
 use Rattle.lg_views.specs.Values.{present}
 
--- the body that comes with a request: none, a JSON value, a text that is no JSON value, or the lines of an import
+-- the body that comes with a request: none, a JSON value, a text that is no JSON value, one for which memory was wanting, or the lines
+-- of an import
 pub data Body : Type 0 where
   NoBody : Body
   ValueBody : Tree → Body
   FaultyBody : (fault : FaultKind) (place : ℕ) → Body
+  UnreadBody : Body
   LinesBody : Batch → Body
 
 -- ---- names of the path
 
-abbrev pub LedgerIn : List ℕ → Answer (List ℕ) → Type 0
-LedgerIn s = IfForm (IsLedgerName s) (Some (codes "ledger")) s
+abbrev pub LedgerNamed : List ℕ → Answer (List ℕ) → Type 0
+LedgerNamed s = IfForm (IsLedgerName s) (Some (codes "ledger")) s
 
-abbrev pub AddressIn : List ℕ → Answer (List ℕ) → Type 0
-AddressIn s = IfForm (IsAddress s) (Some (codes "address")) s
+abbrev pub AddressNamed : List ℕ → Answer (List ℕ) → Type 0
+AddressNamed s = IfForm (IsAddress s) (Some (codes "address")) s
 
-abbrev pub NameIn : List ℕ → Answer (List ℕ) → Type 0
-NameIn s = IfForm (IsUtf8 s) (Some (codes "metadata")) s
+abbrev pub MetadataNamed : List ℕ → Answer (List ℕ) → Type 0
+MetadataNamed s = IfForm (IsUtf8 s) (Some (codes "metadata")) s
 
 -- the decimal text of an id
 pub record IsIdText (s : List ℕ) (id : ℕ) : Type 0 where
   pub decimal : s ≡ decimal id
   pub small : id < 2 ^ 64
 
-abbrev pub IdIn : List ℕ → Answer ℕ → Type 0
-IdIn s r = ((id : ℕ) × IsIdText s id × (r ≡ Ok id)) ⊎ (((id : ℕ) → ¬ (IsIdText s id)) × (r ≡ wrong (Some (codes "id")) Form))
+abbrev pub IdNamed : List ℕ → Answer ℕ → Type 0
+IdNamed s r = ((id : ℕ) × IsIdText s id × (r ≡ Ok id)) ⊎ (((id : ℕ) → ¬ (IsIdText s id)) × (r ≡ wrong (Some (codes "id")) Form))
 
 -- ---- key and body
 
@@ -73,6 +74,7 @@ abbrev pub value_of_body : Body → Answer Tree
 value_of_body NoBody = Ok null
 value_of_body (ValueBody t) = Ok t
 value_of_body (FaultyBody fault place) = Err (BodyJson fault place)
+value_of_body UnreadBody = Err OutOfMemory
 value_of_body (LinesBody batch) = wrong top Kind
 
 -- the lines of an import; none where there is no body
@@ -81,15 +83,11 @@ lines_of_body NoBody = Ok (Ready [])
 lines_of_body (ValueBody null) = Ok (Ready [])
 lines_of_body (ValueBody t) = wrong top Kind
 lines_of_body (FaultyBody fault place) = wrong top Kind
+lines_of_body UnreadBody = wrong top Kind
 lines_of_body (LinesBody batch) = Ok batch
 
--- the filter of a list; all items where there is no body
-abbrev pub FilterIn : ListKind → Tree → Answer Filter → Type 0
-FilterIn kind null = gives All
-FilterIn kind t = FilterOf kind t
-
 abbrev pub FilterBody : ListKind → Body → Answer Filter → Type 0
-FilterBody kind body = known (value_of_body body) >>= FilterIn kind
+FilterBody kind body = known (value_of_body body) >>= FilterOf kind
 
 -- ---- queries of lists
 
@@ -146,13 +144,13 @@ VolumesQuery ps body = TokenOr kind.Volumes ps (
 abbrev pub ReadOf : List ℕ → Read → Answer Call → Type 0
 ReadOf ledger read = gives (call.Read ledger read)
 
--- a write that has a key
+-- a write, with a key or without one
 abbrev pub WriteOf : List ℕ → Option (List ℕ) → Write → Answer Call → Type 0
 WriteOf ledger key write = gives (call.Write ledger key write)
 
 abbrev pub MakeCall : List ℕ → List Parameter → Body → Answer Call → Type 0
 MakeCall s ps body =
-    LedgerIn s >>= (λ ledger.
+    LedgerNamed s >>= (λ ledger.
     known (no_order ps) >>= (λ _.
     known (value_of_body body) >>= (λ value.
     LedgerOf value >>= (λ made.
@@ -160,12 +158,12 @@ MakeCall s ps body =
 
 -- a read of the ledger that has no parameters of its own
 abbrev pub PlainRead : List ℕ → List Parameter → Read → Answer Call → Type 0
-PlainRead s ps read = LedgerIn s >>= (λ ledger. known (no_order ps) >>= (λ _. ReadOf ledger read))
+PlainRead s ps read = LedgerNamed s >>= (λ ledger. known (no_order ps) >>= (λ _. ReadOf ledger read))
 
 abbrev pub AccountRead : List ℕ → List ℕ → List Parameter → Answer Call → Type 0
 AccountRead s a ps =
-    LedgerIn s >>= (λ ledger.
-    AddressIn a >>= (λ address.
+    LedgerNamed s >>= (λ ledger.
+    AddressNamed a >>= (λ address.
     MomentParameter (codes "pit") ps >>= (λ pit.
     known (expand_parameter ps) >>= (λ expand.
     known (no_order ps) >>= (λ _.
@@ -173,8 +171,8 @@ AccountRead s a ps =
 
 abbrev pub TransactionRead : List ℕ → List ℕ → List Parameter → Answer Call → Type 0
 TransactionRead s n ps =
-    LedgerIn s >>= (λ ledger.
-    IdIn n >>= (λ id.
+    LedgerNamed s >>= (λ ledger.
+    IdNamed n >>= (λ id.
     MomentParameter (codes "pit") ps >>= (λ pit.
     known (expand_parameter ps) >>= (λ expand.
     known (no_order ps) >>= (λ _.
@@ -182,7 +180,7 @@ TransactionRead s n ps =
 
 abbrev pub AggregateRead : List ℕ → List Parameter → Body → Answer Call → Type 0
 AggregateRead s ps body =
-    LedgerIn s >>= (λ ledger.
+    LedgerNamed s >>= (λ ledger.
     MomentParameter (codes "pit") ps >>= (λ pit.
     known (truth_parameter (codes "useInsertionDate") ps) >>= (λ by_insertion.
     known (no_order ps) >>= (λ _.
@@ -190,11 +188,11 @@ AggregateRead s ps body =
     ReadOf ledger (read.Aggregate filter pit by_insertion))))))
 
 abbrev pub ListRead : List ℕ → (Answer Query → Type 0) → (Query → Read) → Answer Call → Type 0
-ListRead s query read = LedgerIn s >>= (λ ledger. query >>= (λ q. ReadOf ledger (read q)))
+ListRead s query read = LedgerNamed s >>= (λ ledger. query >>= (λ q. ReadOf ledger (read q)))
 
 abbrev pub CreateCall : List ℕ → List Parameter → Option (List ℕ) → Body → Answer Call → Type 0
 CreateCall s ps key body =
-    LedgerIn s >>= (λ ledger.
+    LedgerNamed s >>= (λ ledger.
     known (truth_parameter (codes "dryRun") ps) >>= (λ dry_run.
     known (unless_true (codes "dryRun") dry_run) >>= (λ _.
     known (no_order ps) >>= (λ _.
@@ -204,8 +202,8 @@ CreateCall s ps key body =
 
 abbrev pub RevertCall : List ℕ → List ℕ → List Parameter → Option (List ℕ) → Body → Answer Call → Type 0
 RevertCall s n ps key body =
-    LedgerIn s >>= (λ ledger.
-    IdIn n >>= (λ id.
+    LedgerNamed s >>= (λ ledger.
+    IdNamed n >>= (λ id.
     known (truth_parameter (codes "force") ps) >>= (λ force.
     known (truth_parameter (codes "atEffectiveDate") ps) >>= (λ at_effective_date.
     known (no_order ps) >>= (λ _.
@@ -216,14 +214,14 @@ RevertCall s n ps key body =
 
 -- the target of metadata: an account or a transaction
 abbrev pub AccountTarget : List ℕ → Answer Target → Type 0
-AccountTarget a = AddressIn a >>= (λ address. gives (Account address))
+AccountTarget a = AddressNamed a >>= (λ address. gives (Account address))
 
 abbrev pub TransactionTarget : List ℕ → Answer Target → Type 0
-TransactionTarget n = IdIn n >>= (λ id. gives (Transaction id))
+TransactionTarget n = IdNamed n >>= (λ id. gives (Transaction id))
 
 abbrev pub SetCall : List ℕ → (Answer Target → Type 0) → List Parameter → Option (List ℕ) → Body → Answer Call → Type 0
 SetCall s target ps key body =
-    LedgerIn s >>= (λ ledger.
+    LedgerNamed s >>= (λ ledger.
     target >>= (λ target.
     known (no_order ps) >>= (λ _.
     KeyIn key >>= (λ key.
@@ -233,9 +231,9 @@ SetCall s target ps key body =
 
 abbrev pub DropCall : List ℕ → (Answer Target → Type 0) → List ℕ → List Parameter → Option (List ℕ) → Answer Call → Type 0
 DropCall s target k ps key =
-    LedgerIn s >>= (λ ledger.
+    LedgerNamed s >>= (λ ledger.
     target >>= (λ target.
-    NameIn k >>= (λ name.
+    MetadataNamed k >>= (λ name.
     known (no_order ps) >>= (λ _.
     KeyIn key >>= (λ key.
     WriteOf ledger key (write.DropMeta target name))))))
@@ -243,7 +241,7 @@ DropCall s target k ps key =
 -- an atomic list can't be parallel
 abbrev pub BulkCall : List ℕ → List Parameter → Body → Answer Call → Type 0
 BulkCall s ps body =
-    LedgerIn s >>= (λ ledger.
+    LedgerNamed s >>= (λ ledger.
     known (truth_parameter (codes "atomic") ps) >>= (λ atomic.
     known (truth_parameter (codes "continueOnFailure") ps) >>= (λ go_on.
     known (truth_parameter (codes "parallel") ps) >>= (λ parallel.
@@ -255,7 +253,7 @@ BulkCall s ps body =
 
 abbrev pub ImportCall : List ℕ → List Parameter → Body → Answer Call → Type 0
 ImportCall s ps body =
-    LedgerIn s >>= (λ ledger.
+    LedgerNamed s >>= (λ ledger.
     known (hashes_parameter ps) >>= (λ _.
     known (no_order ps) >>= (λ _.
     known (lines_of_body body) >>= (λ batch.
@@ -287,12 +285,12 @@ Asks row names ps key body = λ r. ⊥
 
 -- ---- the request
 
--- a method that no route of the path has
+-- what the route of the method asks for; where the path has none of that method, the method is refused
 abbrev pub AsksOn : List (List ℕ) → List Parameter → Option (List ℕ) → Body → Option Route → Answer Call → Type 0
 AsksOn segments ps key body None = known (Err Method)
 AsksOn segments ps key body (Some route) = Asks route.row (names_in route.path segments) ps key body
 
--- a path that no route has
+-- what the routes of the path ask for; where it has none, the path is refused
 abbrev pub AsksAmong : List Route → List ℕ → List (List ℕ) → List Parameter → Option (List ℕ) → Body → Answer Call → Type 0
 AsksAmong [] method segments ps key body = known (Err NoRoute)
 AsksAmong (route ∷ more) method segments ps key body = AsksOn segments ps key body (find (has_method method) (route ∷ more))

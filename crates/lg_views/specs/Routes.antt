@@ -1,7 +1,6 @@
 -- The routes: a method, the pattern of a path, and what a request there asks for.
 use Rattle.std.specs.Prelude.{ℕ, Bool, true, false, ◌&&◌, List, [], ◌∷◌, Option, Some, None, codes}
-use Rattle.std.specs.List.{filter, find}
-use Rattle.std.specs.Option.{option_map}
+use Rattle.std.specs.List.{filter}
 use Rattle.std.specs.Str.{bytes_eq}
 
 -- what a request asks for, before anything else of it is read
@@ -26,6 +25,24 @@ pub data Row : Type 0 where
   ListVolumes : Row
   AggregateBalances : Row
   ShowStats : Row
+
+-- what a row looks at of the body: nothing, a JSON value, or the lines of an import
+pub data BodyKind : Type 0 where
+  Ignored : BodyKind
+  JsonValue : BodyKind
+  ImportLines : BodyKind
+
+abbrev pub body_kind : Row → BodyKind
+body_kind ListLedgers = Ignored
+body_kind ShowLedger = Ignored
+body_kind ShowAccount = Ignored
+body_kind DropAccountMetadata = Ignored
+body_kind ShowTransaction = Ignored
+body_kind DropTransactionMetadata = Ignored
+body_kind ExportLogs = Ignored
+body_kind ShowStats = Ignored
+body_kind ImportLogs = ImportLines
+body_kind row = JsonValue
 
 -- a segment of a pattern: a fixed word, or a name
 pub data Segment : Type 0 where
@@ -113,15 +130,15 @@ routes =
 
 -- ---- matching
 
-abbrev pub fits_segment : Segment → List ℕ → Bool
-fits_segment (Word w) s = bytes_eq s w
-fits_segment Named s = true
+abbrev pub segment_fits : Segment → List ℕ → Bool
+segment_fits (Word w) s = bytes_eq s w
+segment_fits Named s = true
 
 abbrev pub fits_path : List Segment → List (List ℕ) → Bool
 fits_path [] [] = true
 fits_path [] (s ∷ ss) = false
 fits_path (p ∷ ps) [] = false
-fits_path (p ∷ ps) (s ∷ ss) = fits_segment p s && fits_path ps ss
+fits_path (p ∷ ps) (s ∷ ss) = segment_fits p s && fits_path ps ss
 
 abbrev pub has_path : List (List ℕ) → Route → Bool
 has_path segments r = fits_path r.path segments

@@ -3,7 +3,7 @@ use Rattle.std.specs.Prelude.{◌≡◌, ◌⊎◌, ℕ, ℤ, pos, negsuc, ◌&&
 use Rattle.std.specs.List.{filter, enumerate_from, list_any}
 use Rattle.std.specs.Str.Lines.{lines}
 use Rattle.lg_json.specs.Tree.{Tree, Members}
-use Rattle.lg_json.specs.Tree.Tree.{null, truth, whole, part, text, list, members}
+use Rattle.lg_json.specs.Tree.Tree.{whole, text, members}
 use Rattle.lg_json.specs.Fault.{IsFault}
 use Rattle.lg_json.specs.declared.json.JsonFault.{JsonFault}
 use Rattle.lg_json.specs.declared.json.JsonFault.TheVariants as faults
@@ -11,18 +11,17 @@ use Rattle.lg_time.specs.Moment.{IsMoment}
 use Rattle.lg_types.specs.declared.calls.Batch.{Batch}
 use Rattle.lg_types.specs.declared.calls.Call.{Call}
 use Rattle.lg_types.specs.declared.calls.Call.TheVariants.{Unreadable}
-use Rattle.lg_types.specs.declared.refusals.FaultKind.{FaultKind}
 use Rattle.lg_types.specs.declared.refusals.FaultKind.TheVariants as kinds
 use Rattle.lg_types.specs.declared.refusals.Reason.{Reason}
 use Rattle.lg_types.specs.declared.refusals.Reason.TheVariants.{Missing, Kind, Form}
 use Rattle.lg_types.specs.declared.refusals.Refusal.{Refusal}
 use Rattle.lg_types.specs.declared.refusals.Refusal.TheVariants.{LineJson, LineMember}
 use Rattle.lg_views.specs.declared.lines.ScriptLine.{ScriptLine}
-use Rattle.lg_views.specs.Answers.{Answer, known, gives, ◌>>=◌}
+use Rattle.lg_views.specs.Answers.{Answer, known, ◌>>=◌}
 use Rattle.lg_views.specs.Checked.{Shows, IsChecked, has_bytes}
 use Rattle.lg_views.specs.Parameters.{is_recompute}
 use Rattle.lg_views.specs.Requests.{Body, NoBody, ValueBody, LinesBody, IsRequest}
-use Rattle.lg_views.specs.Routes.{Route, Row, ImportLogs, routes_at, has_method}
+use Rattle.lg_views.specs.Routes.{Route, BodyKind, ImportLines, body_kind, routes_at, has_method}
 use Rattle.lg_views.specs.Targets.{path_segments, parameters, first_value}
 use Rattle.lg_views.specs.Values.{under}
 
@@ -35,37 +34,37 @@ script_lines bytes = filter has_bytes (enumerate_from 1 (lines bytes))
 abbrev pub bad_member : {A : Type 0} → List ℕ → Reason → Answer A
 bad_member name reason = Err (LineMember name reason)
 
-abbrev pub text_in : List ℕ → Option Tree → Answer (List ℕ)
-text_in name None = bad_member name Missing
-text_in name (Some (text t)) = Ok t
-text_in name (Some _) = bad_member name Kind
+abbrev pub text_member : List ℕ → Option Tree → Answer (List ℕ)
+text_member name None = bad_member name Missing
+text_member name (Some (text t)) = Ok t
+text_member name (Some _) = bad_member name Kind
 
-abbrev pub MomentIn : List ℕ → Answer ℤ → Type 0
-MomentIn t r = ((moment : ℤ) × IsMoment t moment × (r ≡ Ok moment)) ⊎ (((moment : ℤ) → ¬ (IsMoment t moment)) × (r ≡ bad_member (codes "now") Form))
+abbrev pub NowIn : List ℕ → Answer ℤ → Type 0
+NowIn t r = ((moment : ℤ) × IsMoment t moment × (r ≡ Ok moment)) ⊎ (((moment : ℤ) → ¬ (IsMoment t moment)) × (r ≡ bad_member (codes "now") Form))
 
 abbrev pub between : List ℕ → ℕ → ℕ → ℤ → Answer ℕ
 between name least most (pos n) = if nat_le least n && nat_le n most then Ok n else bad_member name Form
 between name least most (negsuc n) = bad_member name Form
 
 -- a whole number between two ends; 0 where it is absent
-abbrev pub number_in : List ℕ → ℕ → ℕ → Option Tree → Answer ℕ
-number_in name least most None = between name least most (pos 0)
-number_in name least most (Some (whole n)) = between name least most n
-number_in name least most (Some _) = bad_member name Kind
+abbrev pub number_member : List ℕ → ℕ → ℕ → Option Tree → Answer ℕ
+number_member name least most None = between name least most (pos 0)
+number_member name least most (Some (whole n)) = between name least most n
+number_member name least most (Some _) = bad_member name Kind
 
-abbrev pub key_in : Option Tree → Answer (Option (List ℕ))
-key_in None = Ok None
-key_in (Some (text t)) = Ok (Some t)
-key_in (Some _) = bad_member (codes "key") Kind
+abbrev pub key_member : Option Tree → Answer (Option (List ℕ))
+key_member None = Ok None
+key_member (Some (text t)) = Ok (Some t)
+key_member (Some _) = bad_member (codes "key") Kind
 
 -- ---- the body of a line's request: for an import a text that holds the lines
 
-abbrev pub is_import_row : Row → Bool
-is_import_row ImportLogs = true
-is_import_row row = false
+abbrev pub takes_lines : BodyKind → Bool
+takes_lines ImportLines = true
+takes_lines kind = false
 
 abbrev pub is_import_route : List ℕ → Route → Bool
-is_import_route method route = has_method method route && is_import_row route.row
+is_import_route method route = has_method method route && takes_lines (body_kind route.row)
 
 abbrev pub is_import : List ℕ → List ℕ → Bool
 is_import method target = list_any (is_import_route method) (routes_at (path_segments target))
@@ -84,34 +83,34 @@ IsBodyOf method target (Some value) body = body ≡ ValueBody value
 -- ---- a line
 
 -- the moment, the caller, the phase and the call of a line that can be read
-pub record Told : Type 0 where
+pub record LineContent : Type 0 where
   pub moment : ℤ
   pub caller : ℕ
   pub phase : ℕ
   pub call : Call
 
-abbrev pub told : ℤ → ℕ → ℕ → Call → Told
-told moment caller phase call = record { moment = moment; caller = caller; phase = phase; call = call }
+abbrev pub content : ℤ → ℕ → ℕ → Call → LineContent
+content moment caller phase call = record { moment = moment; caller = caller; phase = phase; call = call }
 
-abbrev pub IsCallIn : ℤ → ℕ → ℕ → List ℕ → List ℕ → Option (List ℕ) → Option Tree → Answer Told → Type 0
+abbrev pub IsCallIn : ℤ → ℕ → ℕ → List ℕ → List ℕ → Option (List ℕ) → Option Tree → Answer LineContent → Type 0
 IsCallIn moment caller phase method target key value r =
-    (body : Body) × (c : Call) × IsBodyOf method target value body × IsRequest method target key body c × (r ≡ Ok (told moment caller phase c))
+    (body : Body) × (c : Call) × IsBodyOf method target value body × IsRequest method target key body c × (r ≡ Ok (content moment caller phase c))
 
 -- the members in their order; a phase isn't below that of an earlier line that could be read
-abbrev pub ToldIn : ℕ → Members → Answer Told → Type 0
-ToldIn lowest ms =
-    known (text_in (codes "now") (under (codes "now") ms)) >>= (λ now.
-    MomentIn now >>= (λ moment.
-    known (number_in (codes "caller") 0 63 (under (codes "caller") ms)) >>= (λ caller.
-    known (number_in (codes "phase") lowest 999999 (under (codes "phase") ms)) >>= (λ phase.
-    known (text_in (codes "method") (under (codes "method") ms)) >>= (λ method.
-    known (text_in (codes "path") (under (codes "path") ms)) >>= (λ target.
-    known (key_in (under (codes "key") ms)) >>= (λ key.
+abbrev pub ContentIn : ℕ → Members → Answer LineContent → Type 0
+ContentIn lowest ms =
+    known (text_member (codes "now") (under (codes "now") ms)) >>= (λ now.
+    NowIn now >>= (λ moment.
+    known (number_member (codes "caller") 0 63 (under (codes "caller") ms)) >>= (λ caller.
+    known (number_member (codes "phase") lowest 999999 (under (codes "phase") ms)) >>= (λ phase.
+    known (text_member (codes "method") (under (codes "method") ms)) >>= (λ method.
+    known (text_member (codes "path") (under (codes "path") ms)) >>= (λ target.
+    known (key_member (under (codes "key") ms)) >>= (λ key.
     IsCallIn moment caller phase method target key (under (codes "body") ms))))))))
 
-abbrev pub ToldBy : ℕ → Tree → Answer Told → Type 0
-ToldBy lowest (members ms) = ToldIn lowest ms
-ToldBy lowest t = known (bad_member [] Kind)
+abbrev pub ContentBy : ℕ → Tree → Answer LineContent → Type 0
+ContentBy lowest (members ms) = ContentIn lowest ms
+ContentBy lowest t = known (bad_member [] Kind)
 
 -- a fault of JSON, as the refusal of a line
 abbrev pub line_fault : JsonFault → Option Refusal
@@ -122,41 +121,30 @@ line_fault (faults.TooDeep place) = Some (LineJson kinds.TooDeep place)
 line_fault (faults.Repeated place) = Some (LineJson kinds.Repeated place)
 line_fault faults.NoMemory = None
 
-pub record IsLineFault (bytes : List ℕ) (r : Answer Told) : Type 0 where
+pub record IsLineFault (bytes : List ℕ) (r : Answer LineContent) : Type 0 where
   pub fault : JsonFault
   pub is : IsFault bytes fault
   pub refusal : Refusal
   pub refuses : line_fault fault ≡ Some refusal
   pub answer : r ≡ Err refusal
 
-abbrev pub LineAnswer : ℕ → List ℕ → Answer Told → Type 0
-LineAnswer lowest bytes r = ((t : Tree) × Shows bytes t × ToldBy lowest t r) ⊎ IsLineFault bytes r
+abbrev pub LineAnswer : ℕ → List ℕ → Answer LineContent → Type 0
+LineAnswer lowest bytes r = ((t : Tree) × Shows bytes t × ContentBy lowest t r) ⊎ IsLineFault bytes r
 
 -- ---- a script
 
--- the phases before a line: of the last line that could be read, and of the line before
-pub record Phases : Type 0 where
-  pub lowest : ℕ
-  pub before : ℕ
-
-abbrev pub first_phases : Phases
-first_phases = record { lowest = 0; before = 0 }
-
 -- a line that can't be read is a call of caller 0 in the phase of the line before, at the moment 0
-abbrev pub line_of : Phases → ℕ → Answer Told → ScriptLine
-line_of phases number (Ok t) = record { line = number; caller = t.caller; phase = t.phase; moment = t.moment; call = t.call }
-line_of phases number (Err refusal) = record { line = number; caller = 0; phase = phases.before; moment = pos 0; call = Unreadable refusal }
+abbrev pub line_of : ℕ → ℕ → Answer LineContent → ScriptLine
+line_of phase number (Ok c) = record { line = number; caller = c.caller; phase = c.phase; moment = c.moment; call = c.call }
+line_of phase number (Err refusal) = record { line = number; caller = 0; phase = phase; moment = pos 0; call = Unreadable refusal }
 
-abbrev pub phases_after : Phases → Answer Told → Phases
-phases_after phases (Ok t) = record { lowest = t.phase; before = t.phase }
-phases_after phases (Err refusal) = phases
-
-abbrev pub AreScript : Phases → List (ℕ × List ℕ) → List ScriptLine → Type 0
-AreScript phases [] [] = Unit {0}
-AreScript phases (p ∷ ps) (l ∷ ls) = (r : Answer Told) × LineAnswer phases.lowest p.1 r × (l ≡ line_of phases p.0 r) × AreScript (phases_after phases r) ps ls
-AreScript phases [] (l ∷ ls) = ⊥
-AreScript phases (p ∷ ps) [] = ⊥
+-- the lines after one of a phase, each in no earlier phase
+abbrev pub AreScript : ℕ → List (ℕ × List ℕ) → List ScriptLine → Type 0
+AreScript phase [] [] = Unit {0}
+AreScript phase (p ∷ ps) (l ∷ ls) = (r : Answer LineContent) × LineAnswer phase p.1 r × (l ≡ line_of phase p.0 r) × AreScript l.phase ps ls
+AreScript phase [] (l ∷ ls) = ⊥
+AreScript phase (p ∷ ps) [] = ⊥
 
 -- the lines of a script's bytes
 abbrev pub IsScript : List ℕ → List ScriptLine → Type 0
-IsScript bytes ls = AreScript first_phases (script_lines bytes) ls
+IsScript bytes ls = AreScript 0 (script_lines bytes) ls

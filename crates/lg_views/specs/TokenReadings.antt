@@ -1,12 +1,12 @@
 -- Which query a token stands for: the token of a page of the list that is asked, byte for byte.
-use Rattle.std.specs.Prelude.{◌≡◌, ◌⊎◌, ℕ, ◌<◌, ◌≤◌, ◌^◌, ℤ, Bool, true, false, List, Option, Some, None, Ok, Err, IfSome}
+use Rattle.std.specs.Prelude.{◌≡◌, ◌⊎◌, ℕ, ◌<◌, ◌≤◌, ◌^◌, ℤ, false, List, Option, Some, None, Ok, Err, IfSome}
 use Rattle.lg_containers.specs.AddressGrammar.{IsAddress}
 use Rattle.lg_containers.specs.AssetGrammar.{IsAsset}
 use Rattle.lg_json.specs.Tree.{Tree}
 use Rattle.lg_json.specs.Grammar.{Fits}
 use Rattle.lg_time.specs.Moment.{IsInMoments}
 use Rattle.lg_types.specs.declared.filters.ListKind.{ListKind}
-use Rattle.lg_types.specs.declared.filters.ListKind.TheVariants.{Ledgers, Accounts, Transactions, Logs, Volumes, Aggregate}
+use Rattle.lg_types.specs.declared.filters.ListKind.TheVariants.{Ledgers, Accounts, Transactions, Logs, Volumes}
 use Rattle.lg_types.specs.declared.filters.After.{After}
 use Rattle.lg_types.specs.declared.filters.After.TheVariants.{Place, Address as AddressPlace, Pair}
 use Rattle.lg_types.specs.declared.queries.Query.{Query}

@@ -3,7 +3,7 @@ use Rattle.std.specs.List.{flat_map}
 use Rattle.lg_base.specs.Texts.{escaped}
 use Rattle.lg_base.proofs.Feeds.{same_text}
 use Rattle.lg_containers.proofs.Each.{each-more, each-stop, each-end}
-use Rattle.lg_batch.specs.ReplyTexts.{hex_byte}
+use Rattle.lg_views.specs.RefusalTexts.{hex_byte}
 use Rattle.lg_batch.proofs.Nested.{nested, same_item}
 use Rattle.lg_batch.proofs.messages.feed_hex.Goals as goal
 

@@ -3,7 +3,7 @@ use Rattle.std.specs.List.{flat_map}
 use Rattle.lg_base.specs.Growth.{Completes}
 use Rattle.lg_base.specs.Texts.{escaped}
 use Rattle.lg_base.specs.declared.feed.Stop.{Stop}
-use Rattle.lg_batch.specs.ReplyTexts.{hex_byte}
+use Rattle.lg_views.specs.RefusalTexts.{hex_byte}
 use Rattle.lg_batch.proofs.messages.feed_hex.Given as goal
 
 abbrev pub invariant-loop-byte : goal.invariant-loop-byte

@@ -2,7 +2,7 @@ use Rattle.std.proofs.Common.{arith}
 use Rattle.std.specs.List.{enumerate_from}
 use Rattle.std.proofs.lemmas.List.FromFn.{length-enumerate_from}
 use Rattle.lg_containers.proofs.Each.{each-more, each-stop, each-end}
-use Rattle.lg_batch.specs.Output.{event_line}
+use Rattle.lg_views.specs.Output.{event_line}
 use Rattle.lg_batch.proofs.Placing.{placed}
 use Rattle.lg_batch.proofs.output.feed_events.Goals as goal
 

@@ -2,7 +2,7 @@ use Rattle.std.proofs.Common.{drop}
 use Rattle.std.specs.List.{flat_map, enumerate_from}
 use Rattle.lg_base.specs.Growth.{Completes}
 use Rattle.lg_base.specs.declared.feed.Stop.{Stop}
-use Rattle.lg_batch.specs.Output.{event_line}
+use Rattle.lg_views.specs.Output.{event_line}
 use Rattle.lg_batch.proofs.output.feed_events.Given as goal
 
 abbrev pub invariant-loop-place : goal.invariant-loop-place
