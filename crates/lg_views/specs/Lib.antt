@@ -16,6 +16,7 @@ pub mod Pages
 pub mod Pairs
 pub mod Parameters
 pub mod Paths
+pub mod ReadingLaws
 pub mod Reads
 pub mod RefusalTexts
 pub mod Replies
