@@ -5,6 +5,8 @@ mod adapters;
 mod errors;
 mod limits;
 mod program;
+#[cfg(test)]
+mod tests;
 mod words;
 
 use adapters::{ReadSource, WriteSink};

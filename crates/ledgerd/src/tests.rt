@@ -1,0 +1,166 @@
+//! The program over memory: worked inputs with their outputs, a failed read, and other words.
+
+use crate::adapters::{ReadSource, WriteSink};
+use crate::program::top;
+use lg_base::{CalmSink, CalmSource, MemSource, Sink, Source, Status};
+use std::alloc::Global;
+use std::test::Fail;
+
+/// How a call of the program ended, and what it wrote.
+#[derive(Drop)]
+struct Ending {
+    status: Status,
+    out: CalmSink,
+    error: CalmSink,
+}
+
+/// Calls the program over sinks in memory.
+fn call<S: Source>(alloc: Global, words: &[String], source: &mut S) -> Result<Ending, Fail> {
+    let mut out = CalmSink::new(alloc, 4096)?;
+    let mut error = CalmSink::new(alloc, 256)?;
+    let status = top(alloc, words, source, &mut out, &mut error);
+    Ok(Ending { status, out, error })
+}
+
+/// Runs the script of these bytes.
+fn run(alloc: Global, input: &[u8]) -> Result<Ending, Fail> {
+    let words = [String::from_str(alloc, "run")?];
+    let mut source = CalmSource::new(input.to_vec(alloc)?, 1000);
+    call(alloc, &words, &mut source)
+}
+
+/// The event that stands before all others.
+const OPENING: &[u8] =
+    br#"{"event":0,"made":{"name":"default","addedAt":"1970-01-01T00:00:00Z","bucket":"_default","metadata":{}}}
+"#;
+
+#[test]
+fn no_input_has_the_opening_event_alone(rt: HostRuntime) -> Result<(), Fail> {
+    let ending = run(rt.alloc(), b"")?;
+    assert!(rt; ending.status == Status::Done);
+    assert!(rt; ending.out.written() == OPENING);
+    assert!(rt; ending.error.written().is_empty());
+    Ok(())
+}
+
+#[test]
+fn other_lines_are_not_built(rt: HostRuntime) -> Result<(), Fail> {
+    let ending = run(rt.alloc(), b"[]")?;
+    let output: &[u8] =
+        br#"{"line":1,"front":1,"events":0,"hit":false,"status":501,"body":{"errorCode":"NOT_BUILT","errorMessage":"not built"}}
+{"event":0,"made":{"name":"default","addedAt":"1970-01-01T00:00:00Z","bucket":"_default","metadata":{}}}
+"#;
+    assert!(rt; ending.status == Status::Done);
+    assert!(rt; ending.out.written() == output);
+    Ok(())
+}
+
+#[test]
+fn funds_are_tried_over_earlier_lines(rt: HostRuntime) -> Result<(), Fail> {
+    let input: &[u8] =
+        br#"{"now":"2024-01-01T00:00:00Z","method":"POST","path":"/v2/default/transactions","body":{"postings":[{"source":"world","destination":"users:1","amount":100,"asset":"USD/2"}]}}
+{"now":"2024-01-02T00:00:00Z","method":"POST","path":"/v2/default/transactions","body":{"postings":[{"source":"users:1","destination":"users:2","amount":101,"asset":"USD/2"}]}}
+"#;
+    let output: &[u8] =
+        br#"{"line":1,"front":1,"events":1,"hit":false,"status":200,"body":{"data":{"id":1,"postings":[{"source":"world","destination":"users:1","amount":100,"asset":"USD/2"}],"metadata":{},"timestamp":"2024-01-01T00:00:00Z","insertedAt":"2024-01-01T00:00:00Z","reverted":false}}}
+{"line":2,"front":2,"events":0,"hit":false,"status":400,"body":{"errorCode":"INSUFFICIENT_FUND","errorMessage":"posting 0: users:1 has 100 USD/2, needs 101"}}
+{"event":0,"made":{"name":"default","addedAt":"1970-01-01T00:00:00Z","bucket":"_default","metadata":{}}}
+{"event":1,"ledger":"default","entry":{"type":"NEW_TRANSACTION","data":{"transaction":{"id":1,"postings":[{"source":"world","destination":"users:1","amount":100,"asset":"USD/2"}],"metadata":{},"timestamp":"2024-01-01T00:00:00Z"},"accountMetadata":{}},"date":"2024-01-01T00:00:00Z","form":2,"id":1,"hash":"KYPhpXUWT2k0VAy5oXGx3lGIycWcBOQO+PJBn7qLsq8="}}
+"#;
+    let ending = run(rt.alloc(), input)?;
+    assert!(rt; ending.status == Status::Done);
+    assert!(rt; ending.out.written() == output);
+    Ok(())
+}
+
+#[test]
+fn postings_are_tried_in_their_order(rt: HostRuntime) -> Result<(), Fail> {
+    let input: &[u8] =
+        br#"{"now":"2024-01-01T00:00:00Z","method":"POST","path":"/v2/default/transactions","body":{"postings":[{"source":"a","destination":"b","amount":50,"asset":"EUR"},{"source":"world","destination":"a","amount":50,"asset":"EUR"}]}}
+"#;
+    let output: &[u8] =
+        br#"{"line":1,"front":1,"events":0,"hit":false,"status":400,"body":{"errorCode":"INSUFFICIENT_FUND","errorMessage":"posting 0: a has 0 EUR, needs 50"}}
+{"event":0,"made":{"name":"default","addedAt":"1970-01-01T00:00:00Z","bucket":"_default","metadata":{}}}
+"#;
+    let ending = run(rt.alloc(), input)?;
+    assert!(rt; ending.status == Status::Done);
+    assert!(rt; ending.out.written() == output);
+    Ok(())
+}
+
+#[test]
+fn no_postings_are_refused(rt: HostRuntime) -> Result<(), Fail> {
+    let input: &[u8] =
+        br#"{"now":"2024-01-01T00:00:00Z","method":"POST","path":"/v2/default/transactions","body":{"postings":[]}}
+"#;
+    let output: &[u8] =
+        br#"{"line":1,"front":1,"events":0,"hit":false,"status":400,"body":{"errorCode":"NO_POSTINGS","errorMessage":"no postings"}}
+{"event":0,"made":{"name":"default","addedAt":"1970-01-01T00:00:00Z","bucket":"_default","metadata":{}}}
+"#;
+    let ending = run(rt.alloc(), input)?;
+    assert!(rt; ending.status == Status::Done);
+    assert!(rt; ending.out.written() == output);
+    Ok(())
+}
+
+#[test]
+fn a_failed_first_read_writes_nothing(rt: HostRuntime) -> Result<(), Fail> {
+    let words = [String::from_str(rt.alloc(), "run")?];
+    let fails = vec![in rt.alloc(); 1u64]?;
+    let mut source = MemSource::new(b"[]".to_vec(rt.alloc())?, fails, 10);
+    let ending = call(rt.alloc(), &words, &mut source)?;
+    assert!(rt; ending.status == Status::ReadFault);
+    assert!(rt; ending.out.written().is_empty());
+    assert!(rt; ending.error.written() == b"ledgerd: read fault\n".as_slice());
+    Ok(())
+}
+
+/// The line that says what words the program takes.
+const USAGE: &[u8] =
+    b"usage: ledgerd run | batch N | verify [recompute] | make SEED N | script SEED N | serve HOST:PORT N | usage\n";
+
+/// Calls the program with these two words over a source whose first read fails.
+fn call_with(alloc: Global, first: &str, second: &str) -> Result<Ending, Fail> {
+    let words = [
+        String::from_str(alloc, first)?,
+        String::from_str(alloc, second)?,
+    ];
+    let fails = vec![in alloc; 1u64]?;
+    let mut source = MemSource::new(b"[]".to_vec(alloc)?, fails, 10);
+    call(alloc, &words, &mut source)
+}
+
+#[test]
+fn a_further_word_gets_the_usage_line(rt: HostRuntime) -> Result<(), Fail> {
+    let ending = call_with(rt.alloc(), "run", "x")?;
+    assert!(rt; ending.status == Status::Words);
+    assert!(rt; ending.out.written().is_empty());
+    assert!(rt; ending.error.written() == USAGE);
+    Ok(())
+}
+
+#[test]
+fn too_many_workers_get_the_usage_line(rt: HostRuntime) -> Result<(), Fail> {
+    let ending = call_with(rt.alloc(), "batch", "65")?;
+    assert!(rt; ending.status == Status::Words);
+    assert!(rt; ending.out.written().is_empty());
+    assert!(rt; ending.error.written() == USAGE);
+    Ok(())
+}
+
+#[test]
+fn a_reader_is_a_source(rt: HostRuntime) {
+    let mut source = ReadSource::new(b"abc".as_slice());
+    let mut room = [0; 2];
+    assert_eq!(rt; source.read(&mut room), Ok(2));
+    assert_eq!(rt; room, [b'a', b'b']);
+    assert_eq!(rt; source.read(&mut room), Ok(1));
+    assert_eq!(rt; source.read(&mut room), Ok(0));
+}
+
+#[test]
+fn a_writer_is_a_sink(rt: HostRuntime) {
+    let mut sink = WriteSink::new(Vec::new(rt.alloc()));
+    assert_eq!(rt; sink.write(b"abc"), Ok(3));
+    assert_eq!(rt; sink.write(b""), Ok(0));
+}
