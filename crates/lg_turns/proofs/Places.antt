@@ -1,9 +1,9 @@
 -- What is known of each held place of a row, as one place is taken out and put back.
-use Rattle.std.specs.Prelude.{slice_get, option_map}
+use Rattle.std.specs.Prelude.{is_some, slice_get, option_map}
 use Rattle.std.proofs.Common.{◌≡◌, ℕ, zero, suc, ◌<◌, ◌≤◌, ◌≢◌, List, [], ◌∷◌, Option, Some, None, length, get_or, set, refl, sym, ap, subst, ◌∙◌, arith}
 use mathlib.Core.Logic.{dite}
 use native.Mathlib.Decide.{ℕ_discrete}
-use Rattle.lg_turns.specs.Rows.{mapped, AllHeld}
+use Rattle.lg_turns.specs.Rows.{mapped, AllHeld, SameHeld}
 
 some_some : {A : Type 0} (a b : A) → Some a ≡ Some b → a ≡ b
 some_some a b e = cc
@@ -44,7 +44,31 @@ module _ {A : Type 0} where
   pub held-more : (xs : List (Option A)) (F G : ℕ → A → Type 0) → AllHeld xs F → ((k : ℕ) (a : A) → k < length xs → F k a → G k a) → AllHeld xs G
   held-more xs F G h step k a e = step k a (within xs k a e) (h k a e)
 
+  pub same-none : (xs : List (Option A)) (i : ℕ) → slice_get xs i ≡ Some None → SameHeld (set xs i None) xs
+  same-none [] i e k = refl
+  same-none (x ∷ xs) zero e zero = ap is_some (sym (some_some x None e))
+  same-none (x ∷ xs) zero e (suc k) = refl
+  same-none (x ∷ xs) (suc i) e zero = refl
+  same-none (x ∷ xs) (suc i) e (suc k) = same-none xs i e k
+
+  pub same-put : (xs : List (Option A)) (i : ℕ) (a b : A) → slice_get xs i ≡ Some (Some a) → SameHeld (set (set xs i None) i (Some b)) xs
+  same-put [] i a b e k = refl
+  same-put (x ∷ xs) zero a b e zero = ap is_some (sym (some_some x (Some a) e))
+  same-put (x ∷ xs) zero a b e (suc k) = refl
+  same-put (x ∷ xs) (suc i) a b e zero = refl
+  same-put (x ∷ xs) (suc i) a b e (suc k) = same-put xs i a b e k
+
 module _ {A B : Type 0} where
+  pub same-mapped : (xs : List (Option A)) (f : A → B) → SameHeld (mapped xs f) xs
+  same-mapped [] f k = refl
+  same-mapped (None ∷ xs) f zero = refl
+  same-mapped (Some a ∷ xs) f zero = refl
+  same-mapped (x ∷ xs) f (suc k) = same-mapped xs f k
+
+  -- the same places of two rows hold what a function makes of it
+  pub same-both : (xs ys : List (Option A)) (f : A → B) → SameHeld xs ys → SameHeld (mapped xs f) (mapped ys f)
+  same-both xs ys f h k = same-mapped xs f k ∙ h k ∙ sym (same-mapped ys f k)
+
   pub all-mapped : (xs : List (Option A)) (f : A → B) (F : ℕ → A → Type 0) (G : ℕ → B → Type 0) → AllHeld xs F → ((k : ℕ) (a : A) → F k a → G k (f a)) → AllHeld (mapped xs f) G
   all-mapped [] f F G h step k b e = absurd (let q : None ≡ Some (Some b) = e in cc)
   all-mapped (None ∷ xs) f F G h step zero b e = absurd (let q : Some None ≡ Some (Some b) = e in cc)

@@ -14,6 +14,10 @@ mapped (x ∷ xs) f = option_map f x ∷ mapped xs f
 abbrev pub AllHeld : {A : Type 0} → List (Option A) → (ℕ → A → Type 0) → Type 0
 AllHeld {A} xs F = (i : ℕ) (a : A) → slice_get xs i ≡ Some (Some a) → F i a
 
+-- the same places hold something
+abbrev pub SameHeld : {A B : Type 0} → List (Option A) → List (Option B) → Type 0
+SameHeld xs ys = (k : ℕ) → is_some (slice_index_or xs k None) ≡ is_some (slice_index_or ys k None)
+
 -- those places below n that a test names hold something, and no other place
 abbrev pub HeldBelow : {A : Type 0} → (ℕ → Bool) → ℕ → List (Option A) → Type 0
 HeldBelow test n xs = (k : ℕ) → k < 16 → is_some (slice_index_or xs k None) ≡ (nat_lt k n && test k)

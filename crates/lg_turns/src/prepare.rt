@@ -5,7 +5,7 @@ ghost use Rattle.lg_types.specs.declared.records.Event.{Event};
 ghost use Rattle.lg_types.specs.Marked.{events_of};
 ghost use Rattle.lg_types.specs.Parts.{part_of};
 ghost use Rattle.lg_turns.specs.Stripes.{has};
-ghost use Rattle.lg_turns.specs.Rows.{AllHeld, Staged, Stripe};
+ghost use Rattle.lg_turns.specs.Rows.{AllHeld, SameHeld, Staged, Stripe};
 
 use crate::parts::{Change, Journal, Part};
 use crate::slot::{Desk, Slot};
@@ -88,6 +88,7 @@ fn prepare_at<'b, P: Part, J: Journal, N: Name, C: Change<P, J>>(
     ensures same { (C.added change.new ≡ C.added change.old) × (C.mark change.new ≡ C.mark change.old) × (C.touched change.new ≡ C.touched change.old) }
     ensures fits { (es : List Event) → C.fits change.old es → C.fits change.new es }
     ensures row { MatchResult result (λ _. AllHeld row.new (λ k g. Staged 0 (place + 1) (C.touched change.new) pen.now.me.0.seen k (P.stripe_of (mutex_guard_value g).part) (mutex_guard_value g).known (mutex_guard_value g).prepared (P.shares (mutex_guard_value g).part) (C.on_part change.new (mutex_guard_value g).part))) (λ _. AllHeld row.new (λ k g. Staged 0 place (C.touched change.new) pen.now.me.0.seen k (P.stripe_of (mutex_guard_value g).part) (mutex_guard_value g).known (mutex_guard_value g).prepared (P.shares (mutex_guard_value g).part) (C.on_part change.new (mutex_guard_value g).part))) }
+    ensures held { SameHeld row.new row.old }
 {
     if !set.has(place) {
         return Ok(());
@@ -111,7 +112,8 @@ fn forget_at<'b, P: Part, J: Journal, N: Name, C: Change<P, J>>(
     requires place { (place < end) × (end ≤ 16) }
     requires set { (k : ℕ) → k < 16 → has set k ≡ C.touched change.now k }
     requires row { AllHeld row.old (λ k g. Staged place end (C.touched change.now) pen.now.me.0.seen k (P.stripe_of (mutex_guard_value g).part) (mutex_guard_value g).known (mutex_guard_value g).prepared (P.shares (mutex_guard_value g).part) (C.on_part change.now (mutex_guard_value g).part)) }
-    ensures { AllHeld row.new (λ k g. Staged (place + 1) end (C.touched change.now) pen.now.me.0.seen k (P.stripe_of (mutex_guard_value g).part) (mutex_guard_value g).known (mutex_guard_value g).prepared (P.shares (mutex_guard_value g).part) (C.on_part change.now (mutex_guard_value g).part)) }
+    ensures row { AllHeld row.new (λ k g. Staged (place + 1) end (C.touched change.now) pen.now.me.0.seen k (P.stripe_of (mutex_guard_value g).part) (mutex_guard_value g).known (mutex_guard_value g).prepared (P.shares (mutex_guard_value g).part) (C.on_part change.now (mutex_guard_value g).part)) }
+    ensures held { SameHeld row.new row.old }
 {
     if !set.has(place) {
         return;
@@ -134,7 +136,8 @@ fn forget_row<'b, P: Part, J: Journal, N: Name, C: Change<P, J>>(
     requires end { end ≤ 16 }
     requires set { (k : ℕ) → k < 16 → has set k ≡ C.touched change.now k }
     requires row { AllHeld row.old (λ k g. Staged 0 end (C.touched change.now) pen.now.me.0.seen k (P.stripe_of (mutex_guard_value g).part) (mutex_guard_value g).known (mutex_guard_value g).prepared (P.shares (mutex_guard_value g).part) (C.on_part change.now (mutex_guard_value g).part)) }
-    ensures { AllHeld row.new (λ k g. Stripe false pen.now.me.0.seen k (P.stripe_of (mutex_guard_value g).part) (mutex_guard_value g).known (mutex_guard_value g).prepared (P.shares (mutex_guard_value g).part)) }
+    ensures row { AllHeld row.new (λ k g. Stripe false pen.now.me.0.seen k (P.stripe_of (mutex_guard_value g).part) (mutex_guard_value g).known (mutex_guard_value g).prepared (P.shares (mutex_guard_value g).part)) }
+    ensures held { SameHeld row.new row.old }
 {
     for place in 0..end {
         forget_at(row, pen, change, set, place, end);
@@ -154,6 +157,7 @@ fn prepare_row<'b, P: Part, J: Journal, N: Name, C: Change<P, J>>(
     ensures same { (C.added change.new ≡ C.added change.old) × (C.mark change.new ≡ C.mark change.old) × (C.touched change.new ≡ C.touched change.old) }
     ensures fits { (es : List Event) → C.fits change.old es → C.fits change.new es }
     ensures row { MatchResult result (λ _. AllHeld row.new (λ k g. Staged 0 16 (C.touched change.new) pen.now.me.0.seen k (P.stripe_of (mutex_guard_value g).part) (mutex_guard_value g).known (mutex_guard_value g).prepared (P.shares (mutex_guard_value g).part) (C.on_part change.new (mutex_guard_value g).part))) (λ _. AllHeld row.new (λ k g. Stripe false pen.now.me.0.seen k (P.stripe_of (mutex_guard_value g).part) (mutex_guard_value g).known (mutex_guard_value g).prepared (P.shares (mutex_guard_value g).part))) }
+    ensures held { SameHeld row.new row.old }
     ensures length { IfOk result (λ _. length row.new ≡ 16) }
 {
     for place in 0..16u8 {
@@ -182,6 +186,7 @@ pub(crate) fn prepare_all<'b, P: Part, J: Journal, N: Name, C: Change<P, J>>(
     ensures fits { (es : List Event) → C.fits change.old es → C.fits change.new es }
     ensures desk { (J.events desk.new.journal ≡ J.events desk.old.journal) × (desk.new.pen.me.0.seen ≡ desk.old.pen.me.0.seen) }
     ensures row { MatchResult result (λ _. AllHeld row.new (λ k g. Staged 0 16 (C.touched change.new) desk.old.pen.me.0.seen k (P.stripe_of (mutex_guard_value g).part) (mutex_guard_value g).known (mutex_guard_value g).prepared (P.shares (mutex_guard_value g).part) (C.on_part change.new (mutex_guard_value g).part))) (λ _. AllHeld row.new (λ k g. Stripe false desk.old.pen.me.0.seen k (P.stripe_of (mutex_guard_value g).part) (mutex_guard_value g).known (mutex_guard_value g).prepared (P.shares (mutex_guard_value g).part))) }
+    ensures held { SameHeld row.new row.old }
     ensures journal { MatchResult result (λ _. C.on_journal change.new desk.new.journal × (length (J.events desk.new.journal) + length (C.added change.new) < 2 ^ 64)) (λ _. desk.new.prepared ≡ false) }
     ensures length { IfOk result (λ _. length row.new ≡ 16) }
 {

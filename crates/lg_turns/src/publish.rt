@@ -6,7 +6,7 @@ ghost use Rattle.lg_types.specs.Marked.{events_of, marks, open_end};
 ghost use Rattle.lg_types.specs.Parts.{part_of, untouched};
 ghost use Rattle.lg_turns.specs.Stripes.{has};
 ghost use Rattle.lg_turns.specs.Rules.{IsPen, grown};
-ghost use Rattle.lg_turns.specs.Rows.{AllHeld, Applying, Applied, Staged};
+ghost use Rattle.lg_turns.specs.Rows.{AllHeld, SameHeld, Applying, Applied, Staged};
 
 use crate::parts::{Change, Journal, Part};
 use crate::rule::Added;
@@ -130,6 +130,7 @@ fn apply_at<'b, P: Part, J: Journal, N: Name, C: Change<P, J>>(
     ensures seen { pen.new.me.0.seen ≡ pen.old.me.0.seen }
     ensures slots { pen.new.me.1 ≡ pen.old.me.1 }
     ensures row { AllHeld row.new (λ k g. Applying (place + 1) (C.touched change.now) (J.events before.now.value) (C.added change.now) k (P.stripe_of (mutex_guard_value g).part) (mutex_guard_value g).known (mutex_guard_value g).prepared (P.shares (mutex_guard_value g).part) (C.on_part change.now (mutex_guard_value g).part)) }
+    ensures held { SameHeld row.new row.old }
 {
     if !set.has(place) {
         return;
@@ -161,6 +162,7 @@ fn apply_row<'b, P: Part, J: Journal, N: Name, C: Change<P, J>>(
     ensures seen { pen.new.me.0.seen ≡ pen.old.me.0.seen }
     ensures slots { pen.new.me.1 ≡ pen.old.me.1 }
     ensures row { AllHeld row.new (λ k g. Applied (J.events before.now.value ++ C.added change.now) k (P.stripe_of (mutex_guard_value g).part) (mutex_guard_value g).known (mutex_guard_value g).prepared (P.shares (mutex_guard_value g).part)) }
+    ensures held { SameHeld row.new row.old }
 {
     for place in 0..16u8 {
         apply_at(word, row, pen, change, before, set, place);
@@ -201,6 +203,7 @@ pub(crate) fn publish_all<'b, P: Part, J: Journal, N: Name, C: Change<P, J>>(
     ensures penless { seat.new.me.0.pen ≡ false }
     ensures desk { (desk.new.pen.me.0.seen ≡ desk.old.pen.me.0.seen ++ marks (C.mark change.old) (C.added change.old)) × (J.events desk.new.journal ≡ J.events desk.old.journal ++ C.added change.old) × (desk.new.prepared ≡ false) }
     ensures row { AllHeld row.new (λ k g. Applied (J.events desk.old.journal ++ C.added change.old) k (P.stripe_of (mutex_guard_value g).part) (mutex_guard_value g).known (mutex_guard_value g).prepared (P.shares (mutex_guard_value g).part)) }
+    ensures held { SameHeld row.new row.old }
 {
     let _places = row.len();
     let set = change.touches();

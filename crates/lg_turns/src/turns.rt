@@ -8,7 +8,7 @@ ghost use Rattle.lg_types.specs.Parts.{part_of};
 ghost use Rattle.lg_turns.specs.Stripes.{has};
 ghost use Rattle.lg_turns.specs.Rules.{CaughtUp};
 ghost use Rattle.lg_turns.specs.Passes.{IsPrepared};
-ghost use Rattle.lg_turns.specs.Rows.{AllHeld, mapped, HeldBelow, Stripe};
+ghost use Rattle.lg_turns.specs.Rows.{AllHeld, mapped, HeldBelow, SameHeld, Stripe};
 
 use crate::parts::{Change, Journal, Part};
 use crate::pass::Pass;
@@ -268,6 +268,8 @@ impl<'b, P: Part, J: Journal, N: Name> Met<'b, P, J, N> {
         ensures same { (C.added change.new ≡ C.added change.old) × (C.mark change.new ≡ C.mark change.old) × (C.touched change.new ≡ C.touched change.old) }
         ensures fits { (es : List Event) → C.fits change.old es → C.fits change.new es }
         ensures seen { (self.new.seen ≡ self.old.seen) × (J.events self.new.journal ≡ J.events self.old.journal) }
+        ensures held { SameHeld self.new.parts self.old.parts }
+        ensures stripes { AllHeld self.new.parts (λ k p. P.stripe_of p ≡ k) }
         ensures shares { AllHeld self.new.parts (λ k p. P.shares p ≡ part_of k (events_of self.new.seen)) }
         ensures done { MatchResult result (λ _. (self.new.prepared ≡ true) × IsPrepared (C.touched change.new) (C.on_part change.new) (C.on_journal change.new) (length (J.events self.new.journal)) (length (C.added change.new)) self.new) (λ _. self.new.prepared ≡ false) }
     {
@@ -287,6 +289,8 @@ impl<'b, P: Part, J: Journal, N: Name> Met<'b, P, J, N> {
         requires prepared { (self.old.prepared ≡ true) × IsPrepared (C.touched change) (C.on_part change) (C.on_journal change) (length (J.events self.old.journal)) (length (C.added change)) self.old }
         ensures pass { (pass.new.table ≡ N.table) × (pass.new.seen ≡ self.old.seen ++ marks (C.mark change) (C.added change)) × (pass.new.made ≡ pass.old.made + length (C.added change)) × (pass.new.weight ≡ pass.old.weight) }
         ensures met { (self.new.seen ≡ pass.new.seen) × (J.events self.new.journal ≡ J.events self.old.journal ++ C.added change) × (self.new.prepared ≡ false) }
+        ensures held { SameHeld self.new.parts self.old.parts }
+        ensures stripes { AllHeld self.new.parts (λ k p. P.stripe_of p ≡ k) }
         ensures parts { AllHeld self.new.parts (λ k p. P.shares p ≡ part_of k (events_of self.new.seen)) }
     {
         let _places = self.guards.len();

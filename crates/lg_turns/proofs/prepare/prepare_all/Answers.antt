@@ -10,4 +10,4 @@ pub returns-in-Ok-prepare_desk-clause-row : goal.returns-in-Ok-prepare_desk-clau
 returns-in-Ok-prepare_desk-clause-row g c = held-more _ _ _ c.in-Ok.ensures.row (λ k a lt h. staged-same c.prepare_desk.ensures.same.2 (c.prepare_desk.ensures.others _) h)
 
 pub returns-in-Err-prepare_desk-clause-row : goal.returns-in-Err-prepare_desk-clause-row
-returns-in-Err-prepare_desk-clause-row g c = rw (sym c.prepare_desk.ensures.desk.1) c.forget_row.ensures
+returns-in-Err-prepare_desk-clause-row g c = rw (sym c.prepare_desk.ensures.desk.1) c.forget_row.ensures.row

@@ -1,8 +1,8 @@
 use Rattle.std.specs.Prelude.{slice_get}
-use Rattle.std.proofs.Common.{◌≡◌, ◌≤◌, true, false, length, refl, sym, ap, ◌∙◌, arith}
+use Rattle.std.proofs.Common.{◌≡◌, ◌≤◌, true, false, length, Some, refl, sym, ap, ◌∙◌, arith}
 use Rattle.lg_types.specs.Marked.{events_of}
 use Rattle.lg_types.specs.Parts.{part_of}
-use Rattle.lg_turns.proofs.Places.{held-more, held-none, held-put}
+use Rattle.lg_turns.proofs.Places.{held-more, held-none, held-put, same-none, same-put}
 use Rattle.lg_turns.proofs.Stages.{staged-skip, staged-more, staged-same, staged-new, staged-failed, staged-clean, match-both}
 use Rattle.lg_turns.proofs.prepare.prepare_at.Goals as goal
 
@@ -42,3 +42,11 @@ returns-clause-row g c =
     (λ h. held-put _ _ _ _ _ c.requires.row (λ k a n q. staged-more n e.same.2 (e.others _) q) (staged-new stripe fits shares h.1 yes h.0))
     (λ h. held-put _ _ _ _ _ c.requires.row (λ k a n q. staged-same e.same.2 (e.others _) q) (staged-failed stripe fits shares h))
     e.prepared)
+
+pub returns-in_default-clause-held : goal.returns-in_default-clause-held
+returns-in_default-clause-held g c = rw c.take.ensures.others (same-none _ _ (c.take.ensures.value ∙ ap Some c.in_default.is))
+
+pub returns-clause-held : goal.returns-clause-held
+returns-clause-held g c =
+    let there = ap (slice_get c.args.row.now) (sym c.from.ensures) ∙ c.in-Some.ensures.value in
+    rw (c.put.ensures.others, c.take.ensures.others, c.from.ensures, c.from-2.ensures) (same-put _ _ _ _ there)

@@ -1,7 +1,7 @@
 use Rattle.std.specs.Prelude.{slice_get}
-use Rattle.std.proofs.Common.{◌≡◌, ◌++◌, true, false, sym, ap, subst, ◌∙◌, arith}
+use Rattle.std.proofs.Common.{◌≡◌, ◌++◌, true, false, Some, sym, ap, subst, ◌∙◌, arith}
 use Rattle.lg_types.specs.Parts.{part_of}
-use Rattle.lg_turns.proofs.Places.{held-more, held-none, held-put}
+use Rattle.lg_turns.proofs.Places.{held-more, held-none, held-put, same-none, same-put}
 use Rattle.lg_turns.proofs.Stages.{applying-skip, applying-else, applying-here}
 use Rattle.lg_turns.proofs.publish.apply_at.Goals as goal
 
@@ -38,3 +38,11 @@ returns-clause-row g c =
     let stripe = ap (λ s. g.P.Part.stripe_of s.part) v ∙ r.stripe_is in
     rw (c.put.ensures.others, c.take.ensures.others, c.from.ensures, c.from-2.ensures) (held-put _ _ _ _ _ c.requires.row (λ k a n h. applying-else n h)
     (applying-here (e.stripe ∙ stripe) e.known (e.shares ∙ ap (λ j. part_of j events) stripe) e.clean))
+
+pub returns-in_default-clause-held : goal.returns-in_default-clause-held
+returns-in_default-clause-held g c = rw c.take.ensures.others (same-none _ _ (c.take.ensures.value ∙ ap Some c.in_default.is))
+
+pub returns-clause-held : goal.returns-clause-held
+returns-clause-held g c =
+    let there = ap (slice_get c.args.row.now) (sym c.from.ensures) ∙ c.in-Some.ensures.value in
+    rw (c.put.ensures.others, c.take.ensures.others, c.from.ensures, c.from-2.ensures) (same-put _ _ _ _ there)

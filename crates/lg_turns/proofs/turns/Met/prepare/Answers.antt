@@ -1,8 +1,10 @@
-use Rattle.std.proofs.Common.{◌≡◌, List, true, false, length, refl, sym, ap, ◌∙◌, arith}
+use Rattle.std.specs.Prelude.{is_some}
+use Rattle.std.specs.Sync.Mutex.{mutex_guard_value}
+use Rattle.std.proofs.Common.{◌≡◌, List, None, get_or, true, false, length, refl, sym, ap, ◌∙◌, arith}
 use Rattle.lg_types.specs.declared.marks.Marked.{Marked}
 use Rattle.lg_types.specs.Marked.{events_of}
 use Rattle.lg_types.specs.Parts.{part_of}
-use Rattle.lg_turns.proofs.Places.{held-more, held-within, all-mapped}
+use Rattle.lg_turns.proofs.Places.{held-more, held-within, all-mapped, same-both}
 use Rattle.lg_turns.proofs.Stages.{stripe-to, stripe-of_staged, staged-flag}
 use Rattle.lg_turns.proofs.turns.Met.prepare.Goals as goal
 
@@ -35,3 +37,15 @@ returns-in-Ok-clause-done g c =
 
 pub returns-in-Err-clause-shares : goal.returns-in-Err-clause-shares
 returns-in-Err-clause-shares g c = all-mapped _ _ _ _ c.in-Err.ensures.row (λ k a h. h.shares_is ∙ ap (λ (ms : List Marked). part_of k (events_of ms)) (sym c.prepare_all.ensures.desk.1))
+
+pub returns-in-Ok-clause-stripes : goal.returns-in-Ok-clause-stripes
+returns-in-Ok-clause-stripes g c = all-mapped _ _ _ _ c.in-Ok.ensures.row (λ k a h. h.stripe_is)
+
+pub returns-in-Err-clause-stripes : goal.returns-in-Err-clause-stripes
+returns-in-Err-clause-stripes g c = all-mapped _ _ _ _ c.in-Err.ensures.row (λ k a h. h.stripe_is)
+
+pub returns-in-Ok-clause-held : goal.returns-in-Ok-clause-held
+returns-in-Ok-clause-held g c = λ k. same-both _ _ _ c.prepare_all.ensures.held k ∙ ap (λ m. is_some (get_or m.parts k None)) c.self.view_is
+
+pub returns-in-Err-clause-held : goal.returns-in-Err-clause-held
+returns-in-Err-clause-held g c = λ k. same-both _ _ _ c.prepare_all.ensures.held k ∙ ap (λ m. is_some (get_or m.parts k None)) c.self.view_is

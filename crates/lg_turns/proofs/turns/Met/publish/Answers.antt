@@ -1,9 +1,10 @@
 use Rattle.std.specs.Sync.Mutex.{mutex_guard_value}
-use Rattle.std.proofs.Common.{◌≡◌, true, sym, ap, subst, ◌∙◌, arith}
+use Rattle.std.specs.Prelude.{is_some}
+use Rattle.std.proofs.Common.{◌≡◌, true, None, get_or, sym, ap, subst, ◌∙◌, arith}
 use Rattle.lg_types.specs.Marked.{events_of}
 use Rattle.lg_types.specs.Parts.{part_of}
 use Rattle.lg_turns.specs.Rows.{AllHeld}
-use Rattle.lg_turns.proofs.Places.{held-more, within, all-mapped, all-of_mapped}
+use Rattle.lg_turns.proofs.Places.{held-more, within, all-mapped, all-of_mapped, same-both}
 use Rattle.lg_turns.proofs.Stages.{staged-of, stripe-of_applied}
 use Rattle.lg_turns.proofs.Touched.{grown_events}
 use Rattle.lg_turns.proofs.turns.Met.publish.Goals as goal
@@ -30,3 +31,9 @@ returns-clause-parts g c =
     let e = c.publish_all.ensures in
     let grows = sym (ap events_of e.desk.0 ∙ grown_events d.pen.me.0.seen (g.C.Change.mark c.args.change) (g.C.Change.added c.args.change) (g.J.Journal.events d.journal) d.list) in
     all-mapped _ _ _ _ e.row (λ k a h. h.shares_is ∙ ap (part_of k) grows)
+
+pub returns-clause-stripes : goal.returns-clause-stripes
+returns-clause-stripes g c = all-mapped _ _ _ _ c.publish_all.ensures.row (λ k a h. h.stripe_is)
+
+pub returns-clause-held : goal.returns-clause-held
+returns-clause-held g c = λ k. same-both _ _ _ c.publish_all.ensures.held k ∙ ap (λ m. is_some (get_or m.parts k None)) c.self.view_is
