@@ -1,0 +1,4 @@
+pub mod Back
+pub mod Lines
+pub mod Trials
+pub mod Working

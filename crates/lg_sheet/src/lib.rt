@@ -1,0 +1,16 @@
+//! The trial of postings over lent balances: funds and limits, each posting after the ones before it.
+#![tactic(auto)]
+
+mod balances;
+mod lines;
+mod revert;
+mod sheet;
+mod slots;
+mod stop;
+mod trial;
+mod working;
+
+pub use balances::Balances;
+pub use lg_base::NoMemory;
+pub use sheet::Sheet;
+pub use stop::SheetStop;
