@@ -42,7 +42,7 @@ picks account asset b y W f = by_tests (bytes_eq account b) refl (bytes_eq asset
     by_tests false e t k = refl
 
 -- a fact of the pair is one of another pair that is the same
-there : (account asset b y : List ℕ) (W : At) (P : Volumes → Type 0) → P (W account asset) → is_pair account asset b y ≡ true → P (W b y)
+pub there : (account asset b y : List ℕ) (W : At) (P : Volumes → Type 0) → P (W account asset) → is_pair account asset b y ≡ true → P (W b y)
 there account asset b y W P h = by_tests (bytes_eq account b) refl (bytes_eq asset y) refl
   where
     by_tests : (s : Bool) → bytes_eq account b ≡ s → (t : Bool) → bytes_eq asset y ≡ t → (s && t) ≡ true → P (W b y)

@@ -40,6 +40,10 @@ pub record Accepted (sheet : Working) (ms : List Placed) : Type 0 where
 pub record Booked (old new : Working) (postings : List Posting) : Type 0 where
   pub each : (account asset : List ℕ) → worked new account asset ≡ sum_of (worked old account asset) (total (flat_map tried_moves postings) account asset)
 
+-- what is within the limit stays within it
+pub record StaysWithin (totals : List ℕ → List ℕ → Volumes) (old new : Working) : Type 0 where
+  pub each : (account asset : List ℕ) → IsWithinLimit (present totals old account asset) → IsWithinLimit (present totals new account asset)
+
 -- a stop tells the refusal of a list of postings; want of memory tells nothing
 abbrev pub IsToldStop : List Posting → SheetStop → Option Refusal → Type 0
 IsToldStop postings (Lack place balance) o = IsSomeAnd (slice_get postings place) (λ p. o ≡ Some (refusal.Lack place p.source p.asset balance p.amount))

@@ -1,10 +1,11 @@
 //! The trial of a revert: the limit over all postings first, then the balances after all of them.
 
-ghost use Rattle.std.specs.Prelude.{◌≡◌, List, All, OnOk, OnErr, Err, Some};
+ghost use Rattle.std.specs.Prelude.{◌≡◌, ◌&&◌, not, pos, int_lt, List, All, OnOk, OnErr, Some};
+ghost use Rattle.lg_base.specs.Volumes.{IsWithinLimit, balance_of};
 ghost use Rattle.lg_types.specs.declared.refusals.Refusal.TheVariants.{Below};
 ghost use Rattle.lg_types.specs.declared.records.Posting.{Posting};
 ghost use Rattle.lg_types.specs.Moves.{Placed};
-ghost use Rattle.lg_types.specs.Trial.{reverting, below_in, revert_trial_from};
+ghost use Rattle.lg_types.specs.Trial.{is_world, reverting, below_in, revert_trial_from};
 ghost use Rattle.lg_sheet.specs.Working.{IsOpen, SameVolumes};
 ghost use Rattle.lg_sheet.specs.Trials.{OfBoth, present as volumes_at, MayTry, HaveTotals, Booked, IsTold, IsToldStop};
 
@@ -13,7 +14,7 @@ use crate::lines::{Line, Order, line_at};
 use crate::stop::SheetStop;
 use crate::trial::{book, is_the_world, present, take_back};
 use crate::working::Working;
-use lg_types::{Duplicate, Posting};
+use lg_types::{Duplicate, Posting, Volumes};
 use std::alloc::Global;
 
 /// Books the revert of the postings. After a stop nothing is booked.
@@ -56,11 +57,19 @@ fn find_below<B: Balances>(
     for place in 0..postings.len() {
         let line = line_at(postings, Order::Reverting, place);
         let source = present(lent, working, line.source, line.asset);
-        if !is_the_world(line.source) && source.balance() < 0 {
+        if is_below_zero(&source, &line) {
             return Err(below(alloc, &line, source.balance()));
         }
     }
     Ok(())
+}
+
+/// Whether a source other than `world` with these volumes is below zero.
+fn is_below_zero(source: &Volumes, line: &Line<'_>) -> bool
+    requires { IsWithinLimit source.now }
+    ensures { result ≡ (not (is_world line.now.source.now) && int_lt (balance_of source.now) (pos 0)) }
+{
+    !is_the_world(line.source) && source.balance() < 0
 }
 
 /// The stop at an account that would be below zero.
