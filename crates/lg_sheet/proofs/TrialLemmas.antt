@@ -9,7 +9,7 @@ use Rattle.lg_types.specs.declared.refusals.Refusal.{Refusal}
 use Rattle.lg_types.specs.declared.refusals.Refusal.TheVariants as refusal
 use Rattle.lg_types.specs.Lists.{or_else}
 use Rattle.lg_types.specs.Moves.{Placed}
-use Rattle.lg_types.specs.Trial.{lacks, is_over, tried_moves, trial_from, limit_from, is_below, source_balance, below_in}
+use Rattle.lg_types.specs.Trial.{lacks, is_over, tried_moves, trial_from, limit_from, is_below, source_balance, below_in, balances_from, revert_trial_from}
 use Rattle.lg_sheet.specs.declared.stop.SheetStop.{SheetStop}
 use Rattle.lg_sheet.specs.declared.stop.SheetStop.TheVariants.{Lack, Below, Limit, NoMemory}
 use Rattle.lg_sheet.specs.declared.stop.LineStop.{LineStop}
@@ -106,3 +106,18 @@ module _ (ms : List Placed) (ps : List Posting) (i : ℕ) (p : Posting) (is : sl
       ap (λ b. cond b (Some (refusal.Below p.source p.asset (source_balance ms p))) (below_in ms (drop (i + 1) ps))) (sym e)
       ∙ ap (below_in ms) (sym (left_here ps i p (got_below ps i p is) (got ps i p is)))
       ∙ rest
+
+-- ---- the trial of a revert
+
+pub told_limit : (ms : List Placed) (ps : List Posting) (stop : SheetStop) (force : Bool) → IsToldStop ps stop (trial_from ms 0 ps true) → IsToldStop ps stop (revert_trial_from ms ps force)
+told_limit ms ps stop force h = told_first ps stop (limit_from ms 0 ps) (balances_from ms ps force) (subst (IsToldStop ps stop) (limit_alone ms 0 ps) h)
+
+pub forced_revert : (ms : List Placed) (ps : List Posting) (force : Bool) → trial_from ms 0 ps true ≡ None → force ≡ true → revert_trial_from ms ps force ≡ None
+forced_revert ms ps force h e =
+    ap (λ o. or_else o (balances_from ms ps force)) (sym (limit_alone ms 0 ps) ∙ h)
+    ∙ ap (balances_from ms ps) e
+
+pub whole_revert : (ms : List Placed) (ps : List Posting) (force : Bool) → trial_from ms 0 ps true ≡ None → force ≡ false → revert_trial_from ms ps force ≡ below_in (ms ++ flat_map tried_moves ps) ps
+whole_revert ms ps force h e =
+    ap (λ o. or_else o (balances_from ms ps force)) (sym (limit_alone ms 0 ps) ∙ h)
+    ∙ ap (balances_from ms ps) e

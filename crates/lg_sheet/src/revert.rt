@@ -31,7 +31,10 @@ pub fn book_revert<B: Balances>(
     ensures booked { OnOk result (Booked working.old working.new (reverting postings.now)) }
     ensures stopped { OnErr result (SameVolumes working.old working.new) }
 {
-    book(lent, working, postings, Order::Reverting, true)?;
+    match book(lent, working, postings, Order::Reverting, true) {
+        Ok(()) => {}
+        Err(stop) => return Err(stop),
+    }
     if force {
         return Ok(());
     }
@@ -58,7 +61,7 @@ fn find_below<B: Balances>(
         let line = line_at(postings, Order::Reverting, place);
         let source = present(lent, working, line.source, line.asset);
         if is_below_zero(&source, &line) {
-            return Err(below(alloc, &line, source.balance()));
+            return Err(below(alloc, &line, &source));
         }
     }
     Ok(())
@@ -73,8 +76,9 @@ fn is_below_zero(source: &Volumes, line: &Line<'_>) -> bool
 }
 
 /// The stop at an account that would be below zero.
-fn below(alloc: Global, line: &Line<'_>, balance: i128) -> SheetStop
-    ensures { (postings : List Posting) → IsToldStop postings result (Some (Below line.now.source.now line.now.asset.now balance)) }
+fn below(alloc: Global, line: &Line<'_>, source: &Volumes) -> SheetStop
+    requires { IsWithinLimit source.now }
+    ensures { (postings : List Posting) → IsToldStop postings result (Some (Below line.now.source.now line.now.asset.now (balance_of source.now))) }
 {
     let (Ok(account), Ok(asset)) = (line.source.copy(alloc), line.asset.copy(alloc)) else {
         return SheetStop::NoMemory;
@@ -82,6 +86,6 @@ fn below(alloc: Global, line: &Line<'_>, balance: i128) -> SheetStop
     SheetStop::Below {
         account,
         asset,
-        balance,
+        balance: source.balance(),
     }
 }
