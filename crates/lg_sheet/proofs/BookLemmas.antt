@@ -82,7 +82,7 @@ pub within_next : (totals : List ℕ → List ℕ → Volumes) (now next : Worki
 within_next totals now next p room here = record {
   each = λ b y within.
       let is : present totals next b y ≡ sum_of (present totals now b y) (own_volumes p b y) =
-          ap (sum_of (totals b y)) (here b y ∙ ap (sum_of (worked now b y)) (tried_total p b y)) ∙ sym (sum-assoc (totals b y) (worked now b y) (own_volumes p b y)) in
+      ap (sum_of (totals b y)) (here b y ∙ ap (sum_of (worked now b y)) (tried_total p b y)) ∙ sym (sum-assoc (totals b y) (worked now b y) (own_volumes p b y)) in
       subst IsWithinLimit (sym is) (record {
         input = if_more (is_pair p.destination p.asset b y) (present totals now b y).input p.amount (there p.destination p.asset b y (present totals now) (λ v. v.input + p.amount < 2 ^ 127) room.input) within.input;
         output = if_more (is_pair p.source p.asset b y) (present totals now b y).output p.amount (there p.source p.asset b y (present totals now) (λ v. v.output + p.amount < 2 ^ 127) room.output) within.output;

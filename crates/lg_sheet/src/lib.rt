@@ -14,3 +14,6 @@ pub use balances::Balances;
 pub use lg_base::NoMemory;
 pub use sheet::Sheet;
 pub use stop::SheetStop;
+
+#[cfg(test)]
+mod tests;

@@ -7,7 +7,7 @@ ghost use Rattle.lg_types.specs.declared.records.Posting.{Posting};
 ghost use Rattle.lg_types.specs.Moves.{Placed};
 ghost use Rattle.lg_types.specs.Trial.{is_world, reverting, below_in, revert_trial_from};
 ghost use Rattle.lg_sheet.specs.Working.{IsOpen, SameVolumes};
-ghost use Rattle.lg_sheet.specs.Trials.{OfBoth, present as volumes_at, MayTry, HaveTotals, Booked, IsTold, IsToldStop};
+ghost use Rattle.lg_sheet.specs.Trials.{OfBoth, present as volumes_at, MayTry, HaveTotals, Booked, StaysWithin, IsTold, IsToldStop};
 
 use crate::balances::Balances;
 use crate::lines::{Line, Order, line_at};
@@ -29,6 +29,7 @@ pub fn book_revert<B: Balances>(
     requires places { All (OfBoth (IsOpen working.old)) postings.now }
     ensures told { (ms : List Placed) → HaveTotals (volumes_at (B.totals lent.now) working.old) postings.now ms → IsTold (reverting postings.now) result (revert_trial_from ms (reverting postings.now) force) }
     ensures booked { OnOk result (Booked working.old working.new (reverting postings.now)) }
+    ensures within { OnOk result (StaysWithin (B.totals lent.now) working.old working.new) }
     ensures stopped { OnErr result (SameVolumes working.old working.new) }
 {
     match book(lent, working, postings, Order::Reverting, true) {

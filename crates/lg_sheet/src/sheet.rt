@@ -5,7 +5,7 @@ ghost use Rattle.std.specs.List.{flat_map};
 ghost use Rattle.lg_types.specs.Moves.{Placed};
 ghost use Rattle.lg_types.specs.Trial.{tried_moves, trial_from, reverting, revert_trial_from};
 ghost use Rattle.lg_sheet.specs.Working.{SameVolumes};
-ghost use Rattle.lg_sheet.specs.Trials.{MayTry, HaveTotals, Accepted, IsTold};
+ghost use Rattle.lg_sheet.specs.Trials.{MayTry, HaveTotals, Accepted, StaysWithin, IsTold};
 
 use crate::balances::Balances;
 use crate::lines::Order;
@@ -58,10 +58,17 @@ impl Sheet {
         requires { MayTry (B.lends lent.now) (B.totals lent.now) self.old postings.now }
         ensures told { (ms accepted : List Placed) → HaveTotals (B.totals lent.now) postings.now ms → Accepted self.old accepted → IsTold postings.now result (trial_from (ms ++ accepted) 0 postings.now force) }
         ensures accepted { OnOk result ((accepted : List Placed) → Accepted self.old accepted → Accepted self.new (accepted ++ flat_map tried_moves postings.now)) }
+        ensures within { OnOk result (StaysWithin (B.totals lent.now) self.old self.new) }
         ensures stopped { OnErr result (SameVolumes self.old self.new) }
     {
         match open_all(self.alloc, &mut self.working, postings.as_slice()) {
-            Ok(()) => book(lent, &mut self.working, postings.as_slice(), Order::Given, force),
+            Ok(()) => book(
+                lent,
+                &mut self.working,
+                postings.as_slice(),
+                Order::Given,
+                force,
+            ),
             Err(NoMemory) => Err(SheetStop::NoMemory),
         }
     }
@@ -76,10 +83,17 @@ impl Sheet {
         requires { MayTry (B.lends lent.now) (B.totals lent.now) self.old postings.now }
         ensures told { (ms accepted : List Placed) → HaveTotals (B.totals lent.now) postings.now ms → Accepted self.old accepted → IsTold (reverting postings.now) result (revert_trial_from (ms ++ accepted) (reverting postings.now) force) }
         ensures accepted { OnOk result ((accepted : List Placed) → Accepted self.old accepted → Accepted self.new (accepted ++ flat_map tried_moves (reverting postings.now))) }
+        ensures within { OnOk result (StaysWithin (B.totals lent.now) self.old self.new) }
         ensures stopped { OnErr result (SameVolumes self.old self.new) }
     {
         match open_all(self.alloc, &mut self.working, postings.as_slice()) {
-            Ok(()) => book_revert(self.alloc, lent, &mut self.working, postings.as_slice(), force),
+            Ok(()) => book_revert(
+                self.alloc,
+                lent,
+                &mut self.working,
+                postings.as_slice(),
+                force,
+            ),
             Err(NoMemory) => Err(SheetStop::NoMemory),
         }
     }

@@ -9,7 +9,10 @@ use lg_types::{Address, Asset};
 #[derive(Drop)]
 pub enum SheetStop {
     /// The source of the posting has the balance, which is below the posting's amount.
-    Lack { posting: u64, balance: i128 },
+    Lack {
+        posting: u64,
+        balance: i128,
+    },
     /// After all postings of a revert the account's balance would be below zero.
     Below {
         account: Address,
@@ -17,7 +20,9 @@ pub enum SheetStop {
         balance: i128,
     },
     /// With the posting an input or an output passes the limit.
-    Limit { posting: u64 },
+    Limit {
+        posting: u64,
+    },
     NoMemory,
 }
 

@@ -19,7 +19,7 @@ returns-then-force-clause-told g c = λ ms have. forced_revert ms (reverting c.a
 pub take_back-requires-clause-booked : goal.take_back-requires-clause-booked
 take_back-requires-clause-booked g c =
     let all : take (length c.args.postings.now) (reverting c.args.postings.now) ≡ reverting c.args.postings.now =
-        ap (λ n. take n (reverting c.args.postings.now)) (sym (length-ordered Reverting c.args.postings.now)) ∙ take-length (reverting c.args.postings.now) in
+    ap (λ n. take n (reverting c.args.postings.now)) (sym (length-ordered Reverting c.args.postings.now)) ∙ take-length (reverting c.args.postings.now) in
     subst (HasBooked c.book.new.working) (sym all) (has_booked c.args.working.now c.book.new.working (reverting c.args.postings.now) c.in-Ok.ensures.booked)
 
 pub returns-in-Ok-find_below-clause-told : goal.returns-in-Ok-find_below-clause-told

@@ -40,8 +40,8 @@ returns-in-Some-clause-told g c = λ ms have.
     let totals = g.B.Balances.totals c.args.lent.now in
     let both = both_at (λ account asset. total ms account asset ≡ present totals c.args.working.now account asset) c.args.order c.args.postings.now c.loop-place.place p have.each c.line_at-line.ensures in
     let here = c.try_line.ensures.tried (ms ++ flat_map tried_moves (take c.loop-place.place qs)) c.loop-place.place
-        (total_now totals c.args.working.now c.loop-place.working (take c.loop-place.place qs) ms p.source p.asset c.loop-place.invariant.booked both.source)
-        (total_now totals c.args.working.now c.loop-place.working (take c.loop-place.place qs) ms p.destination p.asset c.loop-place.invariant.booked both.destination) in
+    (total_now totals c.args.working.now c.loop-place.working (take c.loop-place.place qs) ms p.source p.asset c.loop-place.invariant.booked both.source)
+    (total_now totals c.args.working.now c.loop-place.working (take c.loop-place.place qs) ms p.destination p.asset c.loop-place.invariant.booked both.destination) in
     subst (λ stop. IsToldStop qs stop (trial_from ms 0 qs c.args.force)) (sym c.stop_at.ensures)
     (told_here c.args.force ms qs c.loop-place.place p c.line_at-line.ensures c.in-Some.stop (ap (line_refusal c.loop-place.place p) (sym c.in-Some.is) ∙ here) (c.loop-place.invariant.rest ms have))
 
@@ -65,7 +65,7 @@ loop-place-preserved g c =
       rest = λ ms have.
           let both = both_at (λ account asset. total ms account asset ≡ present totals c.args.working.now account asset) c.args.order c.args.postings.now c.loop-place.place p have.each c.line_at-line.ensures in
           let here = c.try_line.ensures.tried (ms ++ flat_map tried_moves (take c.loop-place.place qs)) c.loop-place.place
-              (total_now totals c.args.working.now c.loop-place.working (take c.loop-place.place qs) ms p.source p.asset c.loop-place.invariant.booked both.source)
-              (total_now totals c.args.working.now c.loop-place.working (take c.loop-place.place qs) ms p.destination p.asset c.loop-place.invariant.booked both.destination) in
+          (total_now totals c.args.working.now c.loop-place.working (take c.loop-place.place qs) ms p.source p.asset c.loop-place.invariant.booked both.source)
+          (total_now totals c.args.working.now c.loop-place.working (take c.loop-place.place qs) ms p.destination p.asset c.loop-place.invariant.booked both.destination) in
           goes_here c.args.force ms qs c.loop-place.place p c.line_at-line.ensures (ap (line_refusal c.loop-place.place p) (sym c.in-None.is) ∙ here) (c.loop-place.invariant.rest ms have);
     }
