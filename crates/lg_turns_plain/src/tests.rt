@@ -6,7 +6,7 @@ use crate::{Account, Addition, PlainJournal, PlainPart, opening, payment};
 use lg_containers::NameFault;
 use lg_turns::{Blank, Mark, Name, Pass, StripeSet, Turns};
 use std::alloc::Global;
-use std::marker::Brand;
+use std::marker::{Brand, PhantomData};
 use std::sync::Wait;
 use std::sync::atomic::{AtomicBool, Ordering};
 use std::test::Fail;
@@ -82,6 +82,34 @@ fn object<N: Name>(alloc: Global, blank: Blank) -> Result<(PlainTurns<N>, Pass),
     Ok(Turns::new(blank, parts, journal))
 }
 
+/// A pass of the weight 1 whose calls made a hundred events.
+#[derive(Drop)]
+struct Paid<N: Name> {
+    pass: Pass,
+    of: PhantomData<N>,
+    ghost ours: { pass.table ≡ N.table },
+    ghost light: { pass.weight ≡ 1 },
+    ghost made: { pass.made ≡ 100 },
+}
+
+fn pay_hundred<N: Name, R: Wait>(
+    rt: &R,
+    alloc: Global,
+    turns: &PlainTurns<N>,
+    pass: Pass,
+    caller: u32,
+    from: Account<'_>,
+    to: Account<'_>,
+) -> Result<Paid<N>, NameFault>
+    requires { (pass.table ≡ N.table) × (pass.weight ≡ 1) × (pass.made ≡ 0) }
+{
+    let pass = pay_often(rt, alloc, turns, pass, caller, from, to)?;
+    Ok(Paid {
+        pass,
+        of: PhantomData,
+    })
+}
+
 /// Two threads publish a hundred payments each. Gives how many events there are then.
 fn paid_by_two<N: Name + Send + Sync, R: Threads + Wait + Sync>(
     rt: &R,
@@ -94,23 +122,27 @@ fn paid_by_two<N: Name + Send + Sync, R: Threads + Wait + Sync>(
     requires { blank.table.shared.table_id ≡ N.table }
     ensures { IfOk result (λ count. count ≡ 201) }
 {
-    let (turns, mut first) = object::<N>(alloc, blank)?;
-    let second = turns.split_pass(&mut first);
+    let (turns, mut pass) = object::<N>(alloc, blank)?;
+    let first = turns.split_pass(&mut pass);
+    let second = turns.split_pass(&mut pass);
     let shared = &turns;
     let (first, second) = join(
         rt,
-        move || -> Result<Pass, NameFault>
-            requires { first.table ≡ N.table }
-            ensures { IfOk result (λ p. (p.table ≡ N.table) × (p.weight ≡ first.weight) × (p.made ≡ first.made + 100)) }
-        { pay_often(rt, alloc, shared, first, 0, a, f) },
-        move || -> Result<Pass, NameFault>
-            requires { second.table ≡ N.table }
-            ensures { IfOk result (λ p. (p.table ≡ N.table) × (p.weight ≡ second.weight) × (p.made ≡ second.made + 100)) }
-        { pay_often(rt, alloc, shared, second, 1, f, b) },
+        move || -> Result<Paid<N>, NameFault>
+            requires { (first.table ≡ N.table) × (first.weight ≡ 1) × (first.made ≡ 0) }
+        { pay_hundred(rt, alloc, shared, first, 0, a, f) },
+        move || -> Result<Paid<N>, NameFault>
+            requires { (second.table ≡ N.table) × (second.weight ≡ 1) × (second.made ≡ 0) }
+        { pay_hundred(rt, alloc, shared, second, 1, f, b) },
     );
-    let mut first = first?;
-    turns.join_pass(&mut first, second?);
-    Ok(lg_turns::Journal::len(&turns.close(first)))
+    let Paid { pass: first, of: _ } = first?;
+    turns.join_pass(&mut pass, first);
+    let Paid {
+        pass: second,
+        of: _,
+    } = second?;
+    turns.join_pass(&mut pass, second);
+    Ok(lg_turns::Journal::len(&turns.close(pass)))
 }
 
 #[test]
@@ -156,7 +188,10 @@ fn parts_of_one<N: Name, R: Wait>(
 #[test]
 fn part_that_is_held(rt: HostRuntime) -> Result<(), Fail> {
     let blank = Blank::new(rt.alloc())?;
-    assert_eq!(rt; parts_of_one::<Brand, _>(&rt, rt.alloc(), blank, 3, 5)?, (false, true));
+    assert_eq!(rt;
+        parts_of_one::<Brand, _>(&rt, rt.alloc(), blank, 3, 5)?,
+        (false, true)
+    );
     Ok(())
 }
 
@@ -221,6 +256,9 @@ fn both_inside<N: Name + Send + Sync, R: Threads + Wait + Sync>(
 #[test]
 fn two_threads_inside(rt: HostRuntime) -> Result<(), Fail> {
     let blank = Blank::new(rt.alloc())?;
-    assert_eq!(rt; both_inside::<Brand, _>(&rt, rt.alloc(), blank)?, (true, true));
+    assert_eq!(rt;
+        both_inside::<Brand, _>(&rt, rt.alloc(), blank)?,
+        (true, true)
+    );
     Ok(())
 }

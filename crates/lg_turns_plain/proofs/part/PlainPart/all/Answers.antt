@@ -16,8 +16,7 @@ loop-stripe-preserved c =
     let old = c.loop-stripe.all.items in
     let new = c.new.result in
     let grows = c.in_ok-push.ensures.items in
-    let here : new.stripe ≡ length old = c.new.ensures.stripe ∙ omega (arith, i.0) in
-    (
+    let here : new.stripe ≡ length old = c.new.ensures.stripe ∙ omega (arith, i.0) in (
       omega (arith, c.in_ok-push.ensures.len, i.0),
       (λ k p e. places-more (λ j (q : PlainPart). q.stripe ≡ j) old new i.1 here k p (subst (λ (l : List PlainPart). slice_get l k ≡ Some p) grows e)),
       subst (Each IsEmpty) (sym grows) (each-append IsEmpty old (new ∷ []) i.2 ((c.new.ensures.clean, c.new.ensures.shares), tt)),
