@@ -1,7 +1,6 @@
 //! The trial of postings over lent balances: funds and limits, each posting after the ones before it.
 #![tactic(auto)]
 
-mod balances;
 mod lines;
 mod revert;
 mod sheet;
@@ -10,8 +9,8 @@ mod stop;
 mod trial;
 mod working;
 
-pub use balances::Balances;
 pub use lg_base::NoMemory;
+pub use lg_types::Balances;
 pub use sheet::Sheet;
 pub use stop::SheetStop;
 

@@ -9,12 +9,11 @@ ghost use Rattle.lg_types.specs.Trial.{is_world, reverting, below_in, revert_tri
 ghost use Rattle.lg_sheet.specs.Working.{IsOpen, SameVolumes};
 ghost use Rattle.lg_sheet.specs.Trials.{OfBoth, present as volumes_at, MayTry, HaveTotals, Booked, StaysWithin, IsTold, IsToldStop};
 
-use crate::balances::Balances;
 use crate::lines::{Line, Order, line_at};
 use crate::stop::SheetStop;
 use crate::trial::{book, is_the_world, present, take_back};
 use crate::working::Working;
-use lg_types::{Duplicate, Posting, Volumes};
+use lg_types::{Balances, Duplicate, Posting, Volumes};
 use std::alloc::Global;
 
 /// Books the revert of the postings. After a stop nothing is booked.

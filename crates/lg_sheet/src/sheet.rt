@@ -7,7 +7,6 @@ ghost use Rattle.lg_types.specs.Trial.{tried_moves, trial_from, reverting, rever
 ghost use Rattle.lg_sheet.specs.Working.{SameVolumes};
 ghost use Rattle.lg_sheet.specs.Trials.{MayTry, HaveTotals, Accepted, StaysWithin, IsTold};
 
-use crate::balances::Balances;
 use crate::lines::Order;
 use crate::revert::book_revert;
 use crate::slots::Slots;
@@ -15,7 +14,7 @@ use crate::stop::SheetStop;
 use crate::trial::book;
 use crate::working::{Working, open_all};
 use lg_base::NoMemory;
-use lg_types::Postings;
+use lg_types::{Balances, Postings};
 use std::alloc::Global;
 use std::marker::Model;
 

@@ -11,11 +11,10 @@ ghost use Rattle.lg_sheet.specs.Working.{worked, IsOpen, StaysOpen, SameVolumes}
 ghost use Rattle.lg_sheet.specs.Trials.{OfBoth, present as volumes_at, MayTry, HaveTotals, Booked, StaysWithin, IsTold, tried, line_refusal, HasRoom};
 ghost use Rattle.lg_sheet.specs.Back.{HasBooked};
 
-use crate::balances::Balances;
 use crate::lines::{Line, Order, line_at};
 use crate::stop::{LineStop, SheetStop, stop_at};
 use crate::working::{Working, add_line, take_line, volumes_of};
-use lg_types::{Address, Amount, Asset, Posting, Volumes};
+use lg_types::{Address, Amount, Asset, Balances, Posting, Volumes};
 
 /// The greatest input or output.
 const LIMIT: u128 = 170141183460469231731687303715884105727;
