@@ -4,9 +4,9 @@ use Rattle.std.specs.List.{sum_by, list_any}
 use Rattle.std.proofs.lemmas.Int.{ints}
 use Rattle.std.proofs.lemmas.Bool.{false≢true, lt-ltb}
 use Rattle.std.proofs.lemmas.List.Sums.{sum_by-cons, sum_by-le-sum_by}
-use Rattle.lg_moves.specs.declared.moves.Move.{Move}
+use Rattle.lg_types.specs.declared.moves.Move.{Move}
 use Rattle.lg_moves.specs.declared.sums.Sums.{Sums}
-use Rattle.lg_moves.specs.Moves.{amount_in, amount_out, if_passing, is_from, is_to, is_between, date_of}
+use Rattle.lg_types.specs.Tally.{amount_in, amount_out, if_passing, is_from, is_to, is_between, date_of}
 use Rattle.lg_moves.specs.Sums.{AreSums}
 use Rattle.lg_moves.specs.Index.{is_before}
 use Rattle.lg_moves.proofs.SumLemmas.{sum_by_alike, sum_by_none, sum_by_both, same_total}

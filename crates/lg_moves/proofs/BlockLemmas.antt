@@ -5,10 +5,10 @@ use Rattle.std.proofs.lemmas.Bool.{cases_eq, eq-eqb, ne_eqb}
 use Rattle.std.proofs.lemmas.List.{get_or-take, get_or-drop, get_or-append_right, take_more, length-take, length-drop}
 use Rattle.std.proofs.lemmas.List.Edits.{length-insert}
 use Rattle.std.proofs.lemmas.List.Sums.{sum_by-insert, sum_by-take-drop}
-use Rattle.lg_moves.specs.declared.moves.Move.{Move}
+use Rattle.lg_types.specs.declared.moves.Move.{Move}
 use Rattle.lg_moves.specs.declared.sums.Sums.{Sums}
 use Rattle.lg_moves.specs.declared.bounds.Key.{Key}
-use Rattle.lg_moves.specs.Moves.{amount_in, amount_out}
+use Rattle.lg_types.specs.Tally.{amount_in, amount_out}
 use Rattle.lg_moves.specs.Bounds.{key_of}
 use Rattle.lg_moves.specs.Sums.{AreSums, IsBounded, sums_with}
 use Rattle.lg_moves.specs.Ranks.{IsBlock}

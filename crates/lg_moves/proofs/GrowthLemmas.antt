@@ -4,7 +4,7 @@ use Rattle.std.specs.List.{sum_by}
 use Rattle.std.proofs.lemmas.Bool.{cases_lt}
 use Rattle.std.proofs.lemmas.List.{get_or_append_left}
 use Rattle.lg_runs.specs.Runs.{Kept}
-use Rattle.lg_moves.specs.declared.moves.Move.{Move}
+use Rattle.lg_types.specs.declared.moves.Move.{Move}
 use Rattle.lg_moves.specs.declared.tree.Node.{Node}
 use Rattle.lg_moves.specs.Sums.{IsBounded}
 use Rattle.lg_moves.specs.Ranks.{Each, IsUpToMove, Inserts}

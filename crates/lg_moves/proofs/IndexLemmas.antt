@@ -6,11 +6,11 @@ use Rattle.std.proofs.lemmas.List.Folds.{fold-map}
 use Rattle.std.proofs.lemmas.List.Sums.{sum_by_push}
 use Rattle.lg_base.specs.Volumes.{IsWithinLimit}
 use Rattle.lg_runs.specs.Runs.{Kept}
-use Rattle.lg_moves.specs.declared.moves.Move.{Move}
+use Rattle.lg_types.specs.declared.moves.Move.{Move}
 use Rattle.lg_moves.specs.declared.sums.Sums.{Sums}
 use Rattle.lg_moves.specs.declared.entries.Entry.{Entry}
 use Rattle.lg_moves.specs.declared.bounds.Bound.{Bound}
-use Rattle.lg_moves.specs.Moves.{amount_in, amount_out, if_passing, total_of}
+use Rattle.lg_types.specs.Tally.{amount_in, amount_out, if_passing, total_of}
 use Rattle.lg_moves.specs.Sums.{AreSums, IsBounded}
 use Rattle.lg_moves.specs.Bounds.{is_by_rank, passes}
 use Rattle.lg_moves.specs.Entries.{move_of, entry_of, every_part, timely_part, hit_part}

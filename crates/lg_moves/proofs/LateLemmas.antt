@@ -6,11 +6,11 @@ use Rattle.std.proofs.lemmas.List.Sums.{sum_by-append}
 use Rattle.std.proofs.lemmas.Nat.{pow-add}
 use Rattle.std.proofs.Math.Pow.{pow_mono}
 use Rattle.lg_runs.specs.Runs.{Kept}
-use Rattle.lg_moves.specs.declared.moves.Move.{Move}
+use Rattle.lg_types.specs.declared.moves.Move.{Move}
 use Rattle.lg_moves.specs.declared.sums.Sums.{Sums}
 use Rattle.lg_moves.specs.declared.bounds.Bound.{Bound}
 use Rattle.lg_moves.specs.Bounds.{passes}
-use Rattle.lg_moves.specs.Moves.{amount_in, amount_out, if_passing}
+use Rattle.lg_types.specs.Tally.{amount_in, amount_out, if_passing}
 use Rattle.lg_moves.specs.Sums.{AreSums, IsBounded}
 use Rattle.lg_moves.specs.Seen.{Grown}
 use Rattle.lg_moves.specs.Tree.{IsThick, Grows}

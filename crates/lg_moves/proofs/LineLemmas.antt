@@ -7,7 +7,7 @@ use Rattle.std.proofs.lemmas.List.Sums.{sum_by_push, sum_by-le-sum_by, sum_by-ta
 use Rattle.std.proofs.lemmas.List.Elements.{All-nil, All-push}
 use Rattle.std.proofs.Math.Nat.{pow-suc, mul-le-mul_left, mul_assoc}
 use Rattle.std.proofs.Math.Pow.{pow-lt}
-use Rattle.lg_moves.specs.declared.moves.Move.{Move}
+use Rattle.lg_types.specs.declared.moves.Move.{Move}
 use Rattle.lg_moves.specs.declared.sums.Sums.{Sums}
 use Rattle.lg_moves.specs.declared.marks.Mark.{Mark}
 use Rattle.lg_moves.specs.declared.entries.Entry.{Entry}
@@ -15,7 +15,8 @@ use Rattle.lg_moves.specs.declared.bounds.Key.{Key}
 use Rattle.lg_moves.specs.declared.bounds.Bound.{Bound}
 use Rattle.lg_moves.specs.declared.bounds.Bound.TheVariants.{InsertedTo, InsertedBefore, EffectiveTo, EffectiveBefore, TransactionTo, RankTo, RankBefore}
 use Rattle.lg_runs.specs.Runs.{Kept}
-use Rattle.lg_moves.specs.Moves.{amount_in, amount_out, ComesNext, IsLastInRank, is_ranked_before}
+use Rattle.lg_types.specs.Tally.{amount_in, amount_out, is_ranked_before}
+use Rattle.lg_moves.specs.Moves.{ComesNext, IsLastInRank}
 use Rattle.lg_moves.specs.Sums.{AreSums, IsBounded}
 use Rattle.lg_moves.specs.Bounds.{is_near, is_by_rank, key_of, passes}
 use Rattle.lg_moves.specs.Entries.{move_of, entry_of, counts, hits, every_part, timely_part, counted_part, hit_part}

@@ -3,7 +3,7 @@ use Rattle.std.proofs.Common.{◌≡◌, ℕ, suc, ◌+◌, ◌-◌, ◌<◌, tr
 use Rattle.std.specs.List.{sum_by, insert}
 use Rattle.std.proofs.lemmas.List.{drop_more, take_more, take-append-drop}
 use Rattle.std.proofs.lemmas.List.Sums.{sum_by-append, sum_by-cons}
-use Rattle.lg_moves.specs.declared.moves.Move.{Move}
+use Rattle.lg_types.specs.declared.moves.Move.{Move}
 use Rattle.lg_moves.specs.declared.bounds.Bound.TheVariants.{RankTo, RankBefore}
 use Rattle.lg_moves.specs.Bounds.{is_near, key_of, passes}
 use Rattle.lg_moves.specs.Ranks.{IsUpToMove, Each, IsRising, Inserts}

@@ -5,10 +5,10 @@ use Rattle.std.proofs.lemmas.Bool.{false≢true}
 use Rattle.std.proofs.lemmas.List.{get_or_default}
 use Rattle.std.proofs.lemmas.List.Sums.{sum_by-append, sum_by-cons}
 use Rattle.lg_runs.specs.Runs.{Kept}
-use Rattle.lg_moves.specs.declared.moves.Move.{Move}
+use Rattle.lg_types.specs.declared.moves.Move.{Move}
 use Rattle.lg_moves.specs.declared.sums.Sums.{Sums}
 use Rattle.lg_moves.specs.declared.bounds.Bound.{Bound}
-use Rattle.lg_moves.specs.Moves.{if_passing}
+use Rattle.lg_types.specs.Tally.{if_passing}
 use Rattle.lg_moves.specs.Bounds.{is_by_rank, passes}
 use Rattle.lg_moves.specs.Sums.{AreSums}
 use Rattle.lg_moves.specs.Ranks.{IsUpToMove, Each, IsRising}

@@ -4,11 +4,11 @@ use Rattle.std.specs.List.{sum_by, All}
 use Rattle.std.proofs.lemmas.List.{length-take}
 use Rattle.std.proofs.lemmas.List.Sums.{sum_by-cons, sum_by-le-sum_by, sum_by-take-le, sum_by_more}
 use Rattle.std.proofs.lemmas.List.Elements.{All-head, All-tail}
-use Rattle.lg_moves.specs.declared.moves.Move.{Move}
+use Rattle.lg_types.specs.declared.moves.Move.{Move}
 use Rattle.lg_moves.specs.declared.sums.Sums.{Sums}
 use Rattle.lg_base.specs.declared.amounts.Volumes.{Volumes}
 use Rattle.lg_base.specs.Volumes.{IsWithinLimit}
-use Rattle.lg_moves.specs.Moves.{amount_in, amount_out, if_passing, tally}
+use Rattle.lg_types.specs.Tally.{amount_in, amount_out, if_passing, tally}
 use Rattle.lg_moves.specs.Sums.{AreSums, IsBounded, sums_with}
 
 -- equal terms have equal sums

@@ -6,7 +6,7 @@ use Rattle.std.proofs.lemmas.List.Sums.{sum_by-append}
 use Rattle.std.proofs.Math.Nat.{pow-suc}
 use Rattle.std.proofs.Math.Pow.{pow_mono}
 use Rattle.lg_runs.specs.Runs.{Kept}
-use Rattle.lg_moves.specs.declared.moves.Move.{Move}
+use Rattle.lg_types.specs.declared.moves.Move.{Move}
 use Rattle.lg_moves.specs.declared.tree.Node.{Node}
 use Rattle.lg_moves.specs.declared.tree.Node.TheVariants.{Empty, Fork}
 use Rattle.lg_moves.specs.declared.tree.Trunk.{Trunk}

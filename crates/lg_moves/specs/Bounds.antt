@@ -1,7 +1,7 @@
 -- The tests of the readings as data: each cuts the order of insertion or the order of ranks at one place.
 use Rattle.std.specs.Prelude.{Bool, true, false, ◌&&◌, ◌||◌, int_le, int_lt, nat_le, nat_lt}
 use Rattle.std.specs.Ordering.{int_eq}
-use Rattle.lg_moves.specs.declared.moves.Move.{Move}
+use Rattle.lg_types.specs.declared.moves.Move.{Move}
 use Rattle.lg_moves.specs.declared.bounds.Key.{Key}
 use Rattle.lg_moves.specs.declared.bounds.Bound.{Bound}
 use Rattle.lg_moves.specs.declared.bounds.Bound.TheVariants.{InsertedTo, InsertedBefore, EffectiveTo, EffectiveBefore, TransactionTo, RankTo, RankBefore}

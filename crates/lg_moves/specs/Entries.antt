@@ -1,6 +1,6 @@
 -- Moves as the line keeps them: with a mark of those that came in the order of ranks.
 use Rattle.std.specs.Prelude.{ℕ, Bool, true, ◌&&◌, if◌then◌else◌}
-use Rattle.lg_moves.specs.declared.moves.Move.{Move}
+use Rattle.lg_types.specs.declared.moves.Move.{Move}
 use Rattle.lg_moves.specs.declared.entries.Entry.{Entry}
 use Rattle.lg_moves.specs.declared.bounds.Bound.{Bound}
 use Rattle.lg_moves.specs.Bounds.{passes, is_by_rank}

@@ -2,7 +2,7 @@
 use Rattle.std.specs.Prelude.{◌≡◌, ◌≤◌, ℕ, ◌+◌, Bool, false, Option, None, Some, ℤ, int_lt}
 use Rattle.std.specs.List.{sum_by}
 use Rattle.lg_runs.specs.Runs.{Kept}
-use Rattle.lg_moves.specs.declared.moves.Move.{Move}
+use Rattle.lg_types.specs.declared.moves.Move.{Move}
 use Rattle.lg_moves.specs.declared.entries.Entry.{Entry}
 use Rattle.lg_moves.specs.Sums.{IsBounded}
 use Rattle.lg_moves.specs.Entries.{every_part, timely_part}

@@ -2,7 +2,7 @@
 use Rattle.std.specs.Prelude.{◌≡◌, ℕ, ◌+◌, ◌-◌, ◌*◌, ◌<◌, ◌≤◌, max, ◌++◌, length}
 use Rattle.std.specs.List.{sum_by}
 use Rattle.lg_runs.specs.Runs.{Kept}
-use Rattle.lg_moves.specs.declared.moves.Move.{Move}
+use Rattle.lg_types.specs.declared.moves.Move.{Move}
 use Rattle.lg_moves.specs.Sums.{IsBounded}
 use Rattle.lg_moves.specs.Seen.{Grown}
 use Rattle.lg_moves.specs.Tree.{IsThick}

@@ -4,7 +4,7 @@ use Rattle.std.specs.List.{sum_by, All}
 use Rattle.lg_moves.specs.declared.bounds.Bound.{Bound}
 use Rattle.lg_moves.specs.declared.bounds.Bound.TheVariants.{RankBefore}
 use Rattle.lg_moves.specs.declared.bounds.Key.{Key}
-use Rattle.lg_moves.specs.declared.moves.Move.{Move}
+use Rattle.lg_types.specs.declared.moves.Move.{Move}
 use Rattle.lg_moves.specs.declared.entries.Entry.{Entry}
 use Rattle.lg_moves.specs.declared.marks.Mark.{Mark}
 use Rattle.lg_moves.specs.declared.sums.Sums.{Sums}

@@ -1,7 +1,7 @@
 -- Moves in the order of ranks, the pairs of effective date and transaction.
 use Rattle.std.specs.Prelude.{◌≡◌, ◌-◌, ◌<◌, true, List, [], ◌∷◌, ◌++◌, length, slice_index_or}
 use Rattle.std.specs.List.{sum_by}
-use Rattle.lg_moves.specs.declared.moves.Move.{Move}
+use Rattle.lg_types.specs.declared.moves.Move.{Move}
 use Rattle.lg_moves.specs.declared.sums.Sums.{Sums}
 use Rattle.lg_moves.specs.declared.bounds.Key.{Key}
 use Rattle.lg_moves.specs.declared.bounds.Bound.{Bound}

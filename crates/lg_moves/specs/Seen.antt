@@ -1,7 +1,7 @@
 -- What a tree of blocks is seen as.
 use Rattle.std.specs.Prelude.{ℕ, List, []}
 use Rattle.lg_runs.specs.Runs.{Kept}
-use Rattle.lg_moves.specs.declared.moves.Move.{Move}
+use Rattle.lg_types.specs.declared.moves.Move.{Move}
 
 -- its moves in order, its height, its number of blocks, and how many moves its blocks have beyond 16 each
 pub record Grown : Type 0 where

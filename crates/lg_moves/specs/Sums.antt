@@ -1,8 +1,8 @@
 -- Sums over moves: inputs, outputs and how many.
 use Rattle.std.specs.Prelude.{◌≡◌, ℕ, ◌+◌, ◌^◌, ◌<◌}
-use Rattle.lg_moves.specs.declared.moves.Move.{Move}
+use Rattle.lg_types.specs.declared.moves.Move.{Move}
 use Rattle.lg_moves.specs.declared.sums.Sums.{Sums}
-use Rattle.lg_moves.specs.Moves.{amount_in, amount_out}
+use Rattle.lg_types.specs.Tally.{amount_in, amount_out}
 
 -- the sums are those of a total, which gives the sum of each part of a move over some moves
 pub record AreSums (s : Sums) (total : (Move → ℕ) → ℕ) : Type 0 where

@@ -2,9 +2,9 @@
 use Rattle.std.specs.Prelude.{◌≡◌, ℕ, ◌+◌, ◌-◌, ◌*◌, ◌/◌, ◌^◌, ◌<◌, ◌≤◌, max, List, [], ◌++◌, length}
 use Rattle.std.specs.List.{sum_by}
 use Rattle.lg_runs.specs.Runs.{Kept}
-use Rattle.lg_moves.specs.declared.moves.Move.{Move}
+use Rattle.lg_types.specs.declared.moves.Move.{Move}
 use Rattle.lg_moves.specs.declared.sums.Sums.{Sums}
-use Rattle.lg_moves.specs.Moves.{amount_in, amount_out}
+use Rattle.lg_types.specs.Tally.{amount_in, amount_out}
 use Rattle.lg_moves.specs.Sums.{IsBounded}
 use Rattle.lg_moves.specs.Ranks.{IsRising, Inserts}
 use Rattle.lg_moves.specs.Seen.{Grown}

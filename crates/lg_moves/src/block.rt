@@ -2,18 +2,18 @@
 
 ghost use Rattle.std.specs.Prelude.{◌≡◌, ◌==◌, ℕ, ◌+◌, ◌-◌, ◌^◌, ◌<◌, ◌≤◌, [], ◌∷◌, ◌++◌, length, take, drop, IfOk, slice_index_or, if◌then◌else◌};
 ghost use Rattle.std.specs.List.{sum_by};
-ghost use Rattle.lg_moves.specs.declared.moves.Move.{Move};
-ghost use Rattle.lg_moves.specs.Moves.{if_passing};
+ghost use Rattle.lg_types.specs.declared.moves.Move.{Move};
+ghost use Rattle.lg_types.specs.Tally.{if_passing};
 ghost use Rattle.lg_moves.specs.Bounds.{key_of, passes};
 ghost use Rattle.lg_moves.specs.Sums.{AreSums, IsBounded};
 ghost use Rattle.lg_moves.specs.Ranks.{IsUpToMove, Each, IsRising, Inserts};
 
 use crate::bounds::{Bound, Key, is_before, is_up_to};
-use crate::moves::Move;
 use crate::scan::sum_all;
 use crate::sums::Sums;
 use lg_base::NoMemory;
 use lg_runs::{Runs, Steps};
+use lg_types::Move;
 use std::alloc::Global;
 use std::marker::Model;
 use std::sync::ledger::Ledger;
@@ -35,7 +35,7 @@ pub(crate) struct Block {
 
 impl Model for Block {
     ghost use Rattle.lg_runs.specs.Runs.{Kept};
-    ghost use Rattle.lg_moves.specs.declared.moves.Move.{Move};
+    ghost use Rattle.lg_types.specs.declared.moves.Move.{Move};
     ghost use Rattle.lg_moves.specs.Ranks.{IsBlock};
 
     ghost Value = { Kept Move };
@@ -120,10 +120,10 @@ impl Block {
         ensures fresh_spare { fresh.new.spare ≡ 16 }
         ensures cost { steps.new ≤ steps.old + 34 }
     {
-        fresh.first = self.moves.read_at(HALF, steps).key();
+        fresh.first = Key::of(&self.moves.read_at(HALF, steps));
         fresh.last = self.last;
         fresh.sums = move_upper(&self.moves, &mut fresh.moves, steps);
-        self.last = self.moves.read_at(HALF - 1, steps).key();
+        self.last = Key::of(&self.moves.read_at(HALF - 1, steps));
         self.sums = self.sums.minus(fresh.sums);
         self.moves.cut(HALF);
     }
@@ -158,7 +158,7 @@ pub(crate) fn halve_and_insert<L: Ledger>(
     ensures cost { steps.new ≤ steps.old + 52 }
 {
     block.halve(upper, steps);
-    if is_before(&item.key(), &upper.first()) {
+    if is_before(&Key::of(item), &upper.first()) {
         block.insert(item, steps);
     } else {
         upper.insert(item, steps);
@@ -169,7 +169,7 @@ pub(crate) fn halve_and_insert<L: Ledger>(
 fn key_if(test: bool, item: &Move, other: Key) -> Key
     ensures { result ≡ (if test then key_of item.now else other) }
 {
-    if test { item.key() } else { other }
+    if test { Key::of(item) } else { other }
 }
 
 /// The place of the first move after the item's rank.
@@ -180,11 +180,11 @@ fn place_in<L: Ledger>(moves: &Runs<Move>, item: &Move, steps: &mut Steps<L>) ->
     ensures after { Each (IsUpToMove item.now) (drop result moves.now.items) }
     ensures cost { steps.new ≤ steps.old + (result + 1) }
 {
-    let key = item.key();
+    let key = Key::of(item);
     let mut place = 0;
     while place < moves.len() {
         let other = moves.read_at(place, steps);
-        if !is_up_to(&other.key(), &key) {
+        if !is_up_to(&Key::of(&other), &key) {
             return place;
         }
         place += 1;

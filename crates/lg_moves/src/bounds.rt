@@ -1,11 +1,11 @@
 //! The tests of the readings: each bound cuts the order of insertion, or the order of effective dates, at one place.
 
 ghost use Rattle.std.specs.Prelude.{◌≡◌, int_le, int_lt};
-ghost use Rattle.lg_moves.specs.declared.moves.Move.{Move};
-ghost use Rattle.lg_moves.specs.Moves.{date_of};
+ghost use Rattle.lg_types.specs.declared.moves.Move.{Move};
+ghost use Rattle.lg_types.specs.Tally.{date_of};
 ghost use Rattle.lg_moves.specs.Bounds.{is_near, is_by_rank, key_of, passes};
 
-use crate::moves::Move;
+use lg_types::Move;
 
 /// A place in both orders: a date of insertion with a transaction, and a rank, the pair of an effective date and a
 /// transaction.
@@ -29,15 +29,16 @@ pub(crate) enum Bound {
     RankBefore(i64, u64),
 }
 
-impl Move {
-    pub(crate) fn key(&self) -> Key
-        ensures { result ≡ key_of self.now }
+impl Key {
+    /// The key of a move.
+    pub(crate) fn of(item: &Move) -> Key
+        ensures { result ≡ key_of item.now }
     {
         Key {
-            inserted: self.inserted,
-            transaction: self.transaction,
-            date: self.effective,
-            id: self.transaction,
+            inserted: item.inserted,
+            transaction: item.transaction,
+            date: item.effective,
+            id: item.transaction,
         }
     }
 }
@@ -84,7 +85,7 @@ impl Bound {
     pub(crate) fn passes(&self, item: &Move) -> bool
         ensures { result ≡ passes self.now item.now }
     {
-        self.is_near(&item.key())
+        self.is_near(&Key::of(item))
     }
 
     /// Whether it cuts the order of effective dates and transactions.

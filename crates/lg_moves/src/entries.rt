@@ -4,8 +4,8 @@ ghost use Rattle.std.specs.Prelude.{◌≡◌, ◌+◌, ◌^◌, ◌<◌};
 ghost use Rattle.lg_moves.specs.Entries.{move_of, entry_of, hits};
 
 use crate::bounds::Bound;
-use crate::moves::Move;
 use lg_base::Amount;
+use lg_types::Move;
 
 /// A move, and whether it is timely: it came in the order of ranks, the pairs of effective date and transaction.
 ///

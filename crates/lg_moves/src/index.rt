@@ -3,19 +3,20 @@
 ghost use Rattle.std.specs.Prelude.{◌≡◌, ℕ, ◌+◌, ◌*◌, ◌/◌, ◌^◌, ◌<◌, ◌≤◌, [], ◌∷◌, ◌++◌, length, true, false, ◌&&◌, ℤ, OnOk, if◌then◌else◌};
 ghost use Rattle.std.specs.List.{sum_by, list_any};
 ghost use Rattle.lg_base.specs.Volumes.{IsWithinLimit};
-ghost use Rattle.lg_moves.specs.Moves.{ComesNext, IsLastInRank, tally, total_of, if_passing, is_inserted_to, is_effective_to, is_of_transaction_to, is_ranked_to, is_ranked_before, is_from, is_to, date_of, is_between};
+ghost use Rattle.lg_types.specs.Tally.{tally, total_of, if_passing, is_inserted_to, is_effective_to, is_of_transaction_to, is_ranked_to, is_ranked_before, is_from, is_to, date_of, is_between};
+ghost use Rattle.lg_moves.specs.Moves.{ComesNext, IsLastInRank};
 ghost use Rattle.lg_moves.specs.Bounds.{is_by_rank, passes};
 ghost use Rattle.lg_moves.specs.Sums.{AreSums, IsBounded};
 ghost use Rattle.lg_moves.specs.Index.{is_before};
-ghost use Rattle.lg_moves.specs.declared.moves.Move.{Move};
+ghost use Rattle.lg_types.specs.declared.moves.Move.{Move};
 
 use crate::bounds::Bound;
 use crate::late::Late;
 use crate::line::Line;
-use crate::moves::Move;
 use crate::sums::Sums;
 use lg_base::{NoMemory, Volumes};
 use lg_runs::Steps;
+use lg_types::Move;
 use std::alloc::Global;
 use std::marker::Model;
 use std::sync::ledger::Ledger;
@@ -33,7 +34,7 @@ pub struct MoveIndex {
 impl Model for MoveIndex {
     ghost use Rattle.std.specs.Prelude.{map};
     ghost use Rattle.lg_runs.specs.Runs.{Kept};
-    ghost use Rattle.lg_moves.specs.declared.moves.Move.{Move};
+    ghost use Rattle.lg_types.specs.declared.moves.Move.{Move};
     ghost use Rattle.lg_moves.specs.Entries.{move_of};
     ghost use Rattle.lg_moves.specs.Index.{IsDivided};
 

@@ -3,17 +3,17 @@
 ghost use Rattle.std.specs.Prelude.{◌≡◌, ℕ, ◌+◌, ◌-◌, ◌*◌, ◌^◌, ◌<◌, ◌≤◌, max, true, [], ◌∷◌, ◌++◌, length, OnOk, OnErr};
 ghost use Rattle.std.specs.List.{sum_by};
 ghost use Rattle.lg_moves.specs.Bounds.{is_by_rank, passes};
-ghost use Rattle.lg_moves.specs.Moves.{if_passing};
-ghost use Rattle.lg_moves.specs.declared.moves.Move.{Move};
+ghost use Rattle.lg_types.specs.Tally.{if_passing};
+ghost use Rattle.lg_types.specs.declared.moves.Move.{Move};
 ghost use Rattle.lg_moves.specs.Sums.{AreSums, IsBounded};
 
 use crate::bounds::Bound;
-use crate::moves::Move;
 use crate::scan::sum_all;
 use crate::sums::Sums;
 use crate::tree::{Pool, Tree};
 use lg_base::NoMemory;
 use lg_runs::{Runs, Steps};
+use lg_types::Move;
 use std::alloc::Global;
 use std::marker::Model;
 use std::sync::ledger::Ledger;
@@ -35,7 +35,7 @@ pub(crate) struct Late {
 impl Model for Late {
     ghost use Rattle.std.specs.Prelude.{◌++◌};
     ghost use Rattle.lg_runs.specs.Runs.{Kept};
-    ghost use Rattle.lg_moves.specs.declared.moves.Move.{Move};
+    ghost use Rattle.lg_types.specs.declared.moves.Move.{Move};
     ghost use Rattle.lg_moves.specs.Late.{late_room, IsLate};
 
     ghost Value = { Kept Move };

@@ -9,14 +9,13 @@ mod index;
 mod late;
 mod line;
 mod marks;
-mod moves;
 mod scan;
 mod sums;
 mod tree;
 
 pub use index::MoveIndex;
 pub use lg_base::NoMemory;
-pub use moves::Move;
+pub use lg_types::Move;
 
 #[cfg(test)]
 mod tests;

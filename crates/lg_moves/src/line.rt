@@ -3,20 +3,21 @@
 ghost use Rattle.std.specs.Prelude.{◌≡◌, ◌==◌, ℕ, ◌+◌, ◌-◌, ◌*◌, ◌^◌, ◌<◌, ◌≤◌, max, true, false, [], ◌∷◌, ◌++◌, map, length, take, OnOk, slice_index_or};
 ghost use Rattle.std.specs.List.{sum_by};
 ghost use Rattle.lg_moves.specs.Bounds.{is_near, key_of};
-ghost use Rattle.lg_moves.specs.declared.moves.Move.{Move};
+ghost use Rattle.lg_types.specs.declared.moves.Move.{Move};
 ghost use Rattle.lg_moves.specs.declared.marks.Mark.{Mark};
 ghost use Rattle.lg_moves.specs.Sums.{AreSums, IsBounded};
-ghost use Rattle.lg_moves.specs.Moves.{amount_in, amount_out, ComesNext, IsLastInRank};
+ghost use Rattle.lg_types.specs.Tally.{amount_in, amount_out};
+ghost use Rattle.lg_moves.specs.Moves.{ComesNext, IsLastInRank};
 ghost use Rattle.lg_moves.specs.Entries.{move_of, entry_of, every_part, hit_part};
 ghost use Rattle.lg_moves.specs.Line.{IsMarked, Follows, sums_in, IsUpTo, IsSearched, IsCutAt};
 
 use crate::bounds::{Bound, Key};
 use crate::entries::Entry;
 use crate::marks::Mark;
-use crate::moves::Move;
 use crate::sums::Sums;
 use lg_base::NoMemory;
 use lg_runs::{Runs, Steps};
+use lg_types::Move;
 use std::alloc::Global;
 use std::marker::Model;
 use std::sync::ledger::Ledger;
@@ -136,7 +137,7 @@ fn is_timely(len: usize, end: &Mark, item: &Move) -> bool
     ensures late { result ≡ false → (0 < len) × (is_near (Bound.RankBefore end.now.key.date end.now.key.id) (key_of item.now) ≡ true) }
     ensures ranked { 0 < len → result ≡ true → is_near (Bound.RankBefore end.now.key.date end.now.key.id) (key_of item.now) ≡ false }
 {
-    len == 0 || !Bound::RankBefore(end.key.date, end.key.id).is_near(&item.key())
+    len == 0 || !Bound::RankBefore(end.key.date, end.key.id).is_near(&Key::of(item))
 }
 
 /// The place of the first mark beyond the bound: a binary search.

@@ -4,8 +4,8 @@ ghost use Rattle.std.specs.Prelude.{◌≡◌, ◌+◌, ◌^◌, ◌<◌};
 ghost use Rattle.lg_moves.specs.Line.{sums_in, mark_after};
 
 use crate::bounds::{Bound, Key};
-use crate::moves::Move;
 use crate::sums::Sums;
+use lg_types::Move;
 
 #[derive(Clone, Copy)]
 pub(crate) struct Mark {
@@ -44,7 +44,7 @@ impl Mark {
             Mark {
                 all,
                 timely: self.timely.with(item),
-                key: item.key(),
+                key: Key::of(item),
             }
         } else {
             Mark {

@@ -3,14 +3,14 @@
 ghost use Rattle.std.specs.Prelude.{◌≡◌, ℕ, ◌+◌, ◌^◌, ◌<◌, length};
 ghost use Rattle.std.specs.List.{sum_by};
 ghost use Rattle.lg_moves.specs.Bounds.{passes};
-ghost use Rattle.lg_moves.specs.Moves.{if_passing};
-ghost use Rattle.lg_moves.specs.declared.moves.Move.{Move};
+ghost use Rattle.lg_types.specs.Tally.{if_passing};
+ghost use Rattle.lg_types.specs.declared.moves.Move.{Move};
 ghost use Rattle.lg_moves.specs.Sums.{AreSums, IsBounded};
 
 use crate::bounds::Bound;
-use crate::moves::Move;
 use crate::sums::Sums;
 use lg_runs::{Runs, Steps};
+use lg_types::Move;
 use std::sync::ledger::Ledger;
 
 /// The sums with a move, if it passes.

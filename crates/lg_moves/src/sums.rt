@@ -3,8 +3,8 @@
 ghost use Rattle.std.specs.Prelude.{◌≡◌, ◌+◌, ◌-◌, ◌^◌, ◌<◌, ◌≤◌};
 ghost use Rattle.lg_moves.specs.Sums.{sums_with};
 
-use crate::moves::Move;
 use lg_base::Volumes;
+use lg_types::Move;
 
 /// The inputs and the outputs of some moves, and how many moves they are.
 #[derive(Clone, Copy)]

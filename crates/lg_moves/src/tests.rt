@@ -1,12 +1,12 @@
 //! Tests: the readers against a plain sum, move by move, and worked values.
 
 ghost use Rattle.std.specs.Prelude.{◌≡◌, ◌+◌, ◌^◌, ◌<◌, true, IfOk};
-ghost use Rattle.lg_moves.specs.Moves.{amount_in, amount_out};
+ghost use Rattle.lg_types.specs.Tally.{amount_in, amount_out};
 
 use crate::index::MoveIndex;
-use crate::moves::Move;
 use lg_base::{Amount, NoMemory, Volumes};
 use lg_runs::Steps;
+use lg_types::Move;
 use std::alloc::Global;
 use std::marker::{Brand, Model};
 use std::process::Abort;
@@ -23,7 +23,7 @@ struct Trial {
 
 impl Model for Trial {
     ghost use Rattle.lg_runs.specs.Runs.{Kept};
-    ghost use Rattle.lg_moves.specs.declared.moves.Move.{Move};
+    ghost use Rattle.lg_types.specs.declared.moves.Move.{Move};
     ghost use Rattle.lg_moves.specs.Trial.{EndsBy};
 
     ghost Value = { Kept Move };

@@ -2,21 +2,21 @@
 
 ghost use Rattle.std.specs.Prelude.{◌≡◌, ◌⊎◌, ℕ, ◌+◌, ◌-◌, ◌*◌, ◌^◌, ◌<◌, ◌≤◌, min, max, true, false, [], ◌∷◌, ◌++◌, length, IfOk, OnOk, OnErr, slice_index_or};
 ghost use Rattle.std.specs.List.{sum_by};
-ghost use Rattle.lg_moves.specs.declared.moves.Move.{Move};
+ghost use Rattle.lg_types.specs.declared.moves.Move.{Move};
 ghost use Rattle.lg_moves.specs.declared.tree.Node.TheVariants.{Fork};
 ghost use Rattle.lg_moves.specs.Sums.{AreSums, IsBounded};
 ghost use Rattle.lg_moves.specs.Ranks.{IsUpToMove, Each, IsRising};
-ghost use Rattle.lg_moves.specs.Moves.{if_passing};
+ghost use Rattle.lg_types.specs.Tally.{if_passing};
 ghost use Rattle.lg_moves.specs.Bounds.{is_by_rank, passes};
 ghost use Rattle.lg_moves.specs.Seen.{fresh};
 ghost use Rattle.lg_moves.specs.Tree.{seen, whole, trunk_of, IsThick, AreInOrder, IsBalanced, IsNearlyBalanced, Joins, SettlesAt, RebalancesTo, Puts, Grows};
 
 use crate::block::{Block, CAPACITY, halve_and_insert};
-use crate::bounds::{Bound, is_before, is_up_to};
-use crate::moves::Move;
+use crate::bounds::{Bound, Key, is_before, is_up_to};
 use crate::sums::Sums;
 use lg_base::NoMemory;
 use lg_runs::Steps;
+use lg_types::Move;
 use std::alloc::Global;
 use std::marker::Model;
 use std::mem;
@@ -217,7 +217,7 @@ pub(crate) struct Spare {
 impl Model for Spare {
     ghost use Rattle.std.specs.Prelude.{◌≡◌, []};
     ghost use Rattle.lg_runs.specs.Runs.{Kept};
-    ghost use Rattle.lg_moves.specs.declared.moves.Move.{Move};
+    ghost use Rattle.lg_types.specs.declared.moves.Move.{Move};
 
     ghost Value = { Kept Move };
 
@@ -344,7 +344,7 @@ fn goes_left(left: &Tree, block: &Block, item: &Move) -> bool
     ensures before { result ≡ true → (d : Move) → IsUpToMove item.now (slice_index_or block.now.items 0 d) }
     ensures after { result ≡ false → (left.now.items ≡ []) ⊎ ((d : Move) → IsUpToMove (slice_index_or block.now.items 0 d) item.now) }
 {
-    !left.is_empty() && is_before(&item.key(), &block.first())
+    !left.is_empty() && is_before(&Key::of(item), &block.first())
 }
 
 /// Whether a move goes into the right side: it isn't before the block's moves, and there are blocks.
@@ -354,7 +354,7 @@ fn goes_right(block: &Block, right: &Tree, item: &Move) -> bool
     ensures after { result ≡ true → (d : Move) → IsUpToMove (slice_index_or block.now.items (length block.now.items - 1) d) item.now }
     ensures before { result ≡ false → (right.now.items ≡ []) ⊎ ((d : Move) → IsUpToMove item.now (slice_index_or block.now.items (length block.now.items - 1) d)) }
 {
-    !right.is_empty() && is_up_to(&block.last(), &item.key())
+    !right.is_empty() && is_up_to(&block.last(), &Key::of(item))
 }
 
 /// Puts a move into a block. Where the block is full its upper half goes to the right side first.

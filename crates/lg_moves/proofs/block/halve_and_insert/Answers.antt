@@ -1,7 +1,7 @@
 use Rattle.std.proofs.Common.{◌≡◌, ◌<◌, length, take, drop, arith, ap, sym, ◌∙◌, get_or, List}
 use Rattle.std.proofs.lemmas.List.{length-take, length-drop}
 use Rattle.std.proofs.lemmas.List.Sums.{sum_by-take-drop}
-use Rattle.lg_moves.specs.declared.moves.Move.{Move}
+use Rattle.lg_types.specs.declared.moves.Move.{Move}
 use Rattle.lg_moves.specs.Bounds.{key_of}
 use Rattle.lg_moves.specs.Ranks.{IsUpToMove, IsRising}
 use Rattle.lg_moves.proofs.SumLemmas.{bounded_below}
@@ -22,7 +22,7 @@ returns-then-is_before-clause-inserted g c =
     let n : length (drop 16 c.args.block.now.items) ≡ 16 = omega (arith, length-drop 16 c.args.block.now.items, c.requires.full) in
     let r : IsRising c.halve.new.fresh.items = rw c.halve.ensures.high (rising_right (take 16 c.args.block.now.items) (drop 16 c.args.block.now.items) s) in
     let some : 0 < length c.halve.new.fresh.items = rw (c.halve.ensures.high, n) (omega arith) in
-    let up : (d : Move) → IsUpToMove c.args.item.now (get_or c.halve.new.fresh.items 0 d) = λ d. up_from_before c.args.item.now (get_or c.halve.new.fresh.items 0 d) (rw (c.key.ensures, c.first.ensures d some) at (sym c.is_before.ensures ∙ c.if-is_before.true)) in
+    let up : (d : Move) → IsUpToMove c.args.item.now (get_or c.halve.new.fresh.items 0 d) = λ d. up_from_before c.args.item.now (get_or c.halve.new.fresh.items 0 d) (rw (c.of.ensures, c.first.ensures d some) at (sym c.is_before.ensures ∙ c.if-is_before.true)) in
     inserts_lower c.args.item.now c.args.block.now.items c.halve.new.self.items c.insert.new.self.items c.halve.new.fresh.items 16 c.halve.ensures.low c.halve.ensures.high c.insert.ensures.inserted
     (each_first c.args.item.now c.halve.new.fresh.items r some up)
 
@@ -44,7 +44,7 @@ returns-else-is_before-clause-inserted g c =
     let some_fresh : 0 < length c.halve.new.fresh.items = rw c.halve.ensures.high some in
     let first : (d : Move) → c.first.result ≡ key_of (get_or (drop 16 c.args.block.now.items) 0 d) = λ d. c.first.ensures d some_fresh ∙ ap (λ (z : List Move). key_of (get_or z 0 d)) c.halve.ensures.high in
     let up : (d : Move) → IsUpToMove (get_or (drop 16 c.args.block.now.items) 0 d) c.args.item.now =
-    λ d. up_from_not_before c.args.item.now (get_or (drop 16 c.args.block.now.items) 0 d) (rw (c.key.ensures, first d) at (sym c.is_before.ensures ∙ c.if-is_before.false)) in
+    λ d. up_from_not_before c.args.item.now (get_or (drop 16 c.args.block.now.items) 0 d) (rw (c.of.ensures, first d) at (sym c.is_before.ensures ∙ c.if-is_before.false)) in
     inserts_upper c.args.item.now c.args.block.now.items c.halve.new.self.items c.halve.new.fresh.items c.insert-else-is_before.new.self.items 16 c.halve.ensures.low c.halve.ensures.high c.insert-else-is_before.ensures.inserted
     (rw c.halve.ensures.low (each_until_first c.args.item.now (take 16 c.args.block.now.items) (drop 16 c.args.block.now.items) s some up))
 

@@ -1,6 +1,6 @@
 use Rattle.std.proofs.Common.{◌≡◌, ◌+◌, take}
 use Rattle.std.specs.List.{sum_by}
-use Rattle.lg_moves.specs.Moves.{if_passing}
+use Rattle.lg_types.specs.Tally.{if_passing}
 use Rattle.lg_moves.specs.Bounds.{passes}
 use Rattle.lg_moves.specs.Sums.{AreSums}
 use Rattle.lg_moves.proofs.scan.sum_all.Given as goal

@@ -1,4 +1,4 @@
-use Rattle.lg_moves.specs.Moves.{is_between}
+use Rattle.lg_types.specs.Tally.{is_between}
 use Rattle.lg_moves.proofs.BetweenLemmas.{any_of_count}
 use Rattle.lg_moves.proofs.index.MoveIndex.any.Goals as goal
 

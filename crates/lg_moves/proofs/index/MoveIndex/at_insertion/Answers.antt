@@ -1,6 +1,6 @@
 use Rattle.std.proofs.Common.{w64}
 use Rattle.std.proofs.lemmas.Int.{to_z-of_z}
-use Rattle.lg_moves.specs.Moves.{is_inserted_to}
+use Rattle.lg_types.specs.Tally.{is_inserted_to}
 use Rattle.lg_moves.proofs.SumLemmas.{tally_of_sums, tally_within}
 use Rattle.lg_moves.proofs.index.MoveIndex.at_insertion.Goals as goal
 

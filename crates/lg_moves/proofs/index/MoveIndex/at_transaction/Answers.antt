@@ -1,4 +1,4 @@
-use Rattle.lg_moves.specs.Moves.{is_of_transaction_to}
+use Rattle.lg_types.specs.Tally.{is_of_transaction_to}
 use Rattle.lg_moves.proofs.SumLemmas.{tally_of_sums, tally_within}
 use Rattle.lg_moves.proofs.index.MoveIndex.at_transaction.Goals as goal
 

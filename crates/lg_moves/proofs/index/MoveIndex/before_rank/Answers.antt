@@ -1,6 +1,6 @@
 use Rattle.std.proofs.Common.{w64}
 use Rattle.std.proofs.lemmas.Int.{to_z-of_z}
-use Rattle.lg_moves.specs.Moves.{is_ranked_before}
+use Rattle.lg_types.specs.Tally.{is_ranked_before}
 use Rattle.lg_moves.proofs.SumLemmas.{tally_of_sums, tally_within}
 use Rattle.lg_moves.proofs.index.MoveIndex.before_rank.Goals as goal
 

@@ -1,4 +1,4 @@
-use Rattle.lg_moves.specs.Moves.{is_between}
+use Rattle.lg_types.specs.Tally.{is_between}
 use Rattle.lg_moves.proofs.SumLemmas.{tally_within}
 use Rattle.lg_moves.proofs.index.MoveIndex.between.Goals as goal
 

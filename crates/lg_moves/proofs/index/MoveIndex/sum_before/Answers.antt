@@ -1,5 +1,5 @@
 use Rattle.std.proofs.Common.{int_lt, None, refl}
-use Rattle.lg_moves.specs.Moves.{date_of}
+use Rattle.lg_types.specs.Tally.{date_of}
 use Rattle.lg_moves.specs.Bounds.{passes}
 use Rattle.lg_moves.specs.Index.{is_before}
 use Rattle.lg_moves.proofs.BetweenLemmas.{passing_alike, no_passing}

@@ -1,4 +1,4 @@
-use Rattle.lg_moves.specs.Moves.{date_of, is_to, is_between}
+use Rattle.lg_types.specs.Tally.{date_of, is_to, is_between}
 use Rattle.lg_moves.specs.Index.{is_before}
 use Rattle.lg_moves.proofs.BetweenLemmas.{no_passing, lies_within, between_sums}
 use Rattle.lg_moves.proofs.index.MoveIndex.sum_between.Goals as goal

@@ -1,5 +1,5 @@
 use Rattle.std.proofs.Common.{map, int_le, None, refl, sym}
-use Rattle.lg_moves.specs.Moves.{date_of, is_to}
+use Rattle.lg_types.specs.Tally.{date_of, is_to}
 use Rattle.lg_moves.specs.Entries.{move_of}
 use Rattle.lg_moves.specs.Bounds.{passes}
 use Rattle.lg_moves.proofs.SumLemmas.{same_total}

@@ -1,7 +1,7 @@
 use Rattle.std.proofs.Common.{◌≡◌, ◌+◌, ◌-◌, ◌*◌, ◌≤◌, max, length, arith, ◌∙◌}
 use Rattle.std.specs.List.{sum_by}
 use Rattle.std.proofs.lemmas.Result.{on_ok_weaker}
-use Rattle.lg_moves.specs.declared.moves.Move.{Move}
+use Rattle.lg_types.specs.declared.moves.Move.{Move}
 use Rattle.lg_moves.proofs.SumLemmas.{sum_by_ones}
 use Rattle.lg_moves.proofs.LateLemmas.{room_spared, late_spared}
 use Rattle.lg_moves.proofs.late.Late.reserve.Goals as goal

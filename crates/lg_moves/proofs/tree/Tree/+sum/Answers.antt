@@ -1,8 +1,8 @@
 use Rattle.std.proofs.Common.{◌≡◌, ◌-◌, true, false, length, get_or, ap, sym, subst, ◌∙◌}
 use Rattle.std.specs.List.{sum_by}
-use Rattle.lg_moves.specs.declared.moves.Move.{Move}
+use Rattle.lg_types.specs.declared.moves.Move.{Move}
 use Rattle.lg_moves.specs.declared.tree.Node.TheVariants.{Fork}
-use Rattle.lg_moves.specs.Moves.{if_passing}
+use Rattle.lg_types.specs.Tally.{if_passing}
 use Rattle.lg_moves.specs.Bounds.{passes}
 use Rattle.lg_moves.specs.Sums.{AreSums}
 use Rattle.lg_moves.specs.Seen.{Grown}

@@ -1,7 +1,7 @@
 use Rattle.std.proofs.Common.{◌≡◌, [], ◌∙◌, ap, arith}
 use Rattle.std.specs.List.{sum_by}
 use Rattle.lg_runs.specs.Runs.{Kept}
-use Rattle.lg_moves.specs.declared.moves.Move.{Move}
+use Rattle.lg_types.specs.declared.moves.Move.{Move}
 use Rattle.lg_moves.proofs.SumLemmas.{bounded_below}
 use Rattle.lg_moves.proofs.RankLemmas.{sum_by_inserts}
 use Rattle.lg_moves.proofs.tree.Tree.of.Goals as goal
