@@ -1,4 +1,4 @@
-use Rattle.std.proofs.Common.{take, ap, ◌∙◌, rules}
+use Rattle.std.proofs.Common.{take, ap, ◌∙◌}
 use Rattle.std.proofs.Math.Seq.{take-length}
 use Rattle.lg_turns_plain.specs.Keeping.{kept_shares}
 use Rattle.lg_turns_plain.proofs.Growing.{kept_more}

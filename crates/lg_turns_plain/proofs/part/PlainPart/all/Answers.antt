@@ -1,5 +1,5 @@
 use Rattle.std.specs.Prelude.{nat_eq, slice_get}
-use Rattle.std.proofs.Common.{◌≡◌, ℕ, true, [], ◌∷◌, List, Some, length, take, vec_len, sym, ap, subst, ◌∙◌, arith}
+use Rattle.std.proofs.Common.{◌≡◌, true, [], ◌∷◌, List, Some, length, take, sym, subst, ◌∙◌, arith}
 use Rattle.lg_types.specs.Lists.{Each}
 use Rattle.lg_types.proofs.Eachs.{each-append}
 use Rattle.lg_turns_plain.specs.declared.part.PlainPart.{PlainPart}
