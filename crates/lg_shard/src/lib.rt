@@ -1,0 +1,4 @@
+//! What one stripe of the ledgers knows.
+#![tactic(auto)]
+
+mod slots;
