@@ -1,1 +1,3 @@
 pub mod SlotLemmas
+pub mod AccountLemmas
+pub mod MoveLists

@@ -1,0 +1,6 @@
+pub mod State
+pub mod Shown
+pub mod Following
+pub mod Accounts
+pub mod Sides
+pub mod Names

@@ -1,0 +1,169 @@
+-- What is found in accounts after a change of one of them.
+use Rattle.std.proofs.Common.{◌≡◌, ℕ, Bool, true, false, cond, ◌&&◌, List, [], Option, Some, None, IsSome, unwrap_or, Result, Ok, Err, OnOk, OnErr, Ordering, Less, Equal, Greater, refl, sym, ap, ap₂, subst, ◌∙◌}
+use Rattle.std.specs.Ordering.{is_eq, eq_by_cmp}
+use Rattle.std.specs.Cmp.{tied_itself}
+use Rattle.std.specs.Cmp.Lexicographic.{nat_list_cmp_total}
+use Rattle.std.specs.Str.{bytes_eq}
+use Rattle.std.proofs.lemmas.Slice.Eq.{bytes_eq-Decides}
+use Rattle.lg_containers.specs.NameOrder.{name_order}
+use Rattle.lg_containers.specs.NameTable.{NameTable, get, insert, empty, get-insert, get-empty, name_order-same}
+use Rattle.lg_meta.specs.History.{History}
+use Rattle.lg_types.specs.declared.changes.MetaChange.{MetaChange}
+use Rattle.lg_shard.specs.declared.accounts.AccountPart.{AccountPart}
+use Rattle.lg_shard.specs.declared.reserved.Reserved.{Reserved}
+use Rattle.lg_shard.specs.Accounts.{no_history, with_prepared, slot_in, items_of, waiting_of, history_in, slot_at, items_at, waiting_at, history_at, is_pair, one_if, only_if, SameHoldings, SameRoom, SameHistories, SameSlots}
+
+-- ---- the order of names and the equality of their bytes
+
+pub same_bool : (a b : Bool) → (a ≡ true → b ≡ true) → (b ≡ true → a ≡ true) → a ≡ b
+same_bool true true f g = refl
+same_bool true false f g = sym (f refl)
+same_bool false true f g = g refl
+same_bool false false f g = refl
+
+from_eq : (r : Ordering) → is_eq r ≡ true → r ≡ Equal
+from_eq Less h = absurd cc
+from_eq Equal h = refl
+from_eq Greater h = absurd cc
+
+pub bytes_same : (x y : List ℕ) → bytes_eq x y ≡ true → x ≡ y
+bytes_same x y h = (bytes_eq-Decides x y).0 h
+
+pub bytes_itself : (x : List ℕ) → bytes_eq x x ≡ true
+bytes_itself x = (bytes_eq-Decides x x).1 refl
+
+order_from_eq : (x y : List ℕ) → y ≡ x → name_order x y ≡ Equal
+order_from_eq x y h = ap (name_order x) h ∙ tied_itself nat_list_cmp_total x
+
+pub order_eq : (q name : List ℕ) → eq_by_cmp name_order q name ≡ bytes_eq name q
+order_eq q name =
+    same_bool _ _ (λ h. (bytes_eq-Decides name q).1 (sym (name_order-same q name (from_eq (name_order q name) h))))
+    (λ h. ap is_eq (order_from_eq q name (bytes_same name q h)))
+
+pub get-change : {V : Type 0} (t : NameTable V) (name : List ℕ) (v : V) (q : List ℕ) → get (insert t name v) q ≡ cond (bytes_eq name q) (Some v) (get t q)
+get-change t name v q = get-insert t name v q ∙ ap (λ b. cond b (Some v) (get t q)) (order_eq q name)
+
+-- a name that gets the value that it has is as before
+opened_step : {V X : Type 0} (f : Option V → X) (v : V) (o : Option V) → f (Some v) ≡ f None → f (Some (unwrap_or o v)) ≡ f o
+opened_step f v None h = h
+opened_step f v (Some w) h = refl
+
+opened_or : {V X : Type 0} (f : Option V → X) (v : V) (o p : Option V) (b : Bool) → f (Some v) ≡ f None → (b ≡ true → o ≡ p) → f (cond b (Some (unwrap_or o v)) p) ≡ f p
+opened_or f v o p true h same = opened_step f v o h ∙ ap f (same refl)
+opened_or f v o p false h same = refl
+
+pub get-opened : {V X : Type 0} (f : Option V → X) (t : NameTable V) (name : List ℕ) (v : V) (q : List ℕ) → f (Some v) ≡ f None → f (get (insert t name (unwrap_or (get t name) v)) q) ≡ f (get t q)
+get-opened f t name v q h =
+    ap f (get-change t name _ q) ∙ opened_or f v (get t name) (get t q) (bytes_eq name q) h (λ e. ap (get t) (bytes_same name q e))
+
+-- ---- another slot
+
+slot_or : (part : AccountPart) (s r : List ℕ) (w : Reserved) (o : Option AccountPart) (b : Bool) → (b ≡ true → o ≡ Some part)
+    → slot_in (cond b (Some (record part { assets = insert part.assets s w })) o) r ≡ cond (b && bytes_eq s r) (Some w) (slot_in o r)
+slot_or part s r w o true same = get-change part.assets s w r ∙ ap (λ p. cond (bytes_eq s r) (Some w) (slot_in p r)) (sym (same refl))
+slot_or part s r w o false same = refl
+
+history_or : (part changed : AccountPart) (o : Option AccountPart) (b : Bool) → changed.history ≡ part.history → (b ≡ true → o ≡ Some part) → history_in (cond b (Some changed) o) ≡ history_in o
+history_or part changed o true h same = h ∙ ap history_in (sym (same refl))
+history_or part changed o false h same = refl
+
+module _ (t : NameTable AccountPart) (account asset : List ℕ) (part : AccountPart) (there : get t account ≡ Some part) (w : Reserved) where
+  same_there : (a : List ℕ) → bytes_eq account a ≡ true → get t a ≡ Some part
+  same_there a e = ap (get t) (sym (bytes_same account a e)) ∙ there
+
+  pub slot-with : (a s : List ℕ) → slot_at (insert t account (record part { assets = insert part.assets asset w })) a s ≡ cond (bytes_eq account a && bytes_eq asset s) (Some w) (slot_at t a s)
+  slot-with a s = ap (λ o. slot_in o s) (get-change t account _ a) ∙ slot_or part asset s w (get t a) (bytes_eq account a) (same_there a)
+
+  pub history-with : (a : List ℕ) → history_at (insert t account (record part { assets = insert part.assets asset w })) a ≡ history_at t a
+  history-with a = ap history_in (get-change t account _ a) ∙ history_or part (record part { assets = insert part.assets asset w }) (get t a) (bytes_eq account a) refl (same_there a)
+
+-- ---- a slot that is there and changes
+
+module _ (t : NameTable AccountPart) (account asset n m : List ℕ) (en : n ≡ account) (em : m ≡ asset) (part : AccountPart) (there : get t n ≡ Some part) (slot : Reserved) (found : get part.assets m ≡ Some slot) (w : Reserved) where
+  pair_step : (Q : Option Reserved → Option Reserved → Bool → Type 0) → Q (Some w) (Some slot) true → ((o : Option Reserved) → Q o o false)
+      → (b : Bool) (o : Option Reserved) → (b ≡ true → o ≡ Some slot) → Q (cond b (Some w) o) o b
+  pair_step Q here other true o is = subst (λ p. Q (Some w) p true) (sym (is refl)) here
+  pair_step Q here other false o is = other o
+
+  both_first : (a b : Bool) → (a && b) ≡ true → a ≡ true
+  both_first true b h = refl
+  both_first false b h = h
+
+  both_second : (a b : Bool) → (a && b) ≡ true → b ≡ true
+  both_second true b h = h
+  both_second false b h = absurd (let f : false ≡ true = h in cc)
+
+  slot_there : (a s : List ℕ) → (bytes_eq n a && bytes_eq m s) ≡ true → slot_at t a s ≡ Some slot
+  slot_there a s h =
+      ap₂ (λ x y. slot_at t x y) (sym (bytes_same n a (both_first _ _ h))) (sym (bytes_same m s (both_second _ _ h)))
+      ∙ ap (λ o. slot_in o m) there ∙ found
+
+  -- what holds of the changed slot, and of any slot that stays, holds at each account and asset
+  pub pair-changed : (Q : Option Reserved → Option Reserved → Bool → Type 0) → Q (Some w) (Some slot) true → ((o : Option Reserved) → Q o o false)
+      → (a s : List ℕ) → Q (slot_at (insert t n (record part { assets = insert part.assets m w })) a s) (slot_at t a s) (is_pair account asset a s)
+  pair-changed Q here other a s =
+      subst (λ b. Q (slot_at (insert t n (record part { assets = insert part.assets m w })) a s) (slot_at t a s) b) (ap₂ (λ x y. is_pair x y a s) en em)
+      (subst (λ o. Q o (slot_at t a s) (is_pair n m a s)) (sym (slot-with t n m part there w a s))
+      (pair_step Q here other (is_pair n m a s) (slot_at t a s) (slot_there a s)))
+
+  pub pair-histories : (a : List ℕ) → history_at (insert t n (record part { assets = insert part.assets m w })) a ≡ history_at t a
+  pair-histories a = history-with t n m part there w a
+
+  pub pair-same : w.index.items ≡ slot.index.items → SameHoldings t (insert t n (record part { assets = insert part.assets m w }))
+  pair-same h = record { items = pair-changed (λ p o b. items_of p ≡ items_of o) h (λ o. refl); histories = pair-histories }
+
+-- ---- an account that is opened, and changes
+
+module _ {X : Type 0} (F : Option AccountPart → X) (t : NameTable AccountPart) (n : List ℕ) (part changed : AccountPart) (there : get t n ≡ Some part) where
+  part_or : (o : Option AccountPart) (b : Bool) → F (Some changed) ≡ F (Some part) → (b ≡ true → o ≡ Some part) → F (cond b (Some changed) o) ≡ F o
+  part_or o true h same = h ∙ ap F (sym (same refl))
+  part_or o false h same = refl
+
+  pub part-changed : F (Some changed) ≡ F (Some part) → (a : List ℕ) → F (get (insert t n changed) a) ≡ F (get t a)
+  part-changed h a = ap F (get-change t n changed a) ∙ part_or (get t a) (bytes_eq n a) h (λ e. ap (get t) (sym (bytes_same n a e)) ∙ there)
+
+-- an account that is opened, then changes
+pub part-opened : {X : Type 0} (F : Option AccountPart → X) (t : NameTable AccountPart) (name : List ℕ) (fresh : AccountPart) (t1 : NameTable AccountPart) (n : List ℕ) (part changed : AccountPart)
+    → t1 ≡ insert t name (unwrap_or (get t name) fresh) → get t1 n ≡ Some part → F (Some fresh) ≡ F None → F (Some changed) ≡ F (Some part) → (a : List ℕ) → F (get (insert t1 n changed) a) ≡ F (get t a)
+part-opened F t name fresh t1 n part changed opened there new same a =
+    part-changed F t1 n part changed there same a ∙ ap (λ u. F (get u a)) opened ∙ get-opened F t name fresh a new
+
+pub slot-empty : (assets : NameTable Reserved) (s : List ℕ) → assets ≡ empty → get assets s ≡ None
+slot-empty assets s h = ap (λ u. get u s) h ∙ get-empty Reserved s
+
+some_there : {V : Type 0} (o : Option V) (v : V) → o ≡ Some v → IsSome o
+some_there None v h = cc
+some_there (Some w) v h = refl
+
+-- what was opened is there
+pub opened_there : {V : Type 0} (t t1 : NameTable V) (name n : List ℕ) (fresh : V) → n ≡ name → t1 ≡ insert t name (unwrap_or (get t name) fresh) → IsSome (get t1 n)
+opened_there t t1 name n fresh e opened =
+    some_there _ _ (ap₂ get opened e ∙ get-change t name _ name ∙ ap (λ b. cond b (Some (unwrap_or (get t name) fresh)) (get t name)) (bytes_itself name))
+
+-- the slot that was opened in the account's part
+pub slot_opened : (t1 : NameTable AccountPart) (n account asset : List ℕ) (part changed : AccountPart) (fresh : Reserved) → n ≡ account → changed.assets ≡ insert part.assets asset (unwrap_or (get part.assets asset) fresh)
+    → IsSome (slot_at (insert t1 n changed) account asset)
+slot_opened t1 n account asset part changed fresh e opened =
+    let here : get (insert t1 n changed) account ≡ Some changed = ap (get (insert t1 n changed)) (sym e) ∙ get-change t1 n changed n ∙ ap (λ b. cond b (Some changed) (get t1 n)) (bytes_itself n) in
+    let P : Option AccountPart → Type 0 = λ o. IsSome (slot_in o asset) in
+    subst P (sym here) (opened_there part.assets changed.assets asset asset fresh refl opened)
+
+-- the history that takes a prepared change
+module _ (t : NameTable AccountPart) (name : List ℕ) (fresh : AccountPart) (t1 : NameTable AccountPart) (n : List ℕ) (part changed : AccountPart) (change : MetaChange)
+    (e : n ≡ name) (opened : t1 ≡ insert t name (unwrap_or (get t name) fresh)) (there : get t1 n ≡ Some part) (new : fresh.history ≡ no_history) (is : changed.history ≡ with_prepared part.history change) where
+  prepared_or : (b : Bool) (o p : Option AccountPart) → history_in o ≡ history_in p → (b ≡ true → o ≡ Some part)
+      → history_in (cond b (Some changed) o) ≡ cond b (with_prepared (history_in p) change) (history_in p)
+  prepared_or true o p h same = is ∙ ap (λ q. with_prepared (history_in q) change) (sym (same refl)) ∙ ap (λ k. with_prepared k change) h
+  prepared_or false o p h same = h
+
+  pub history-prepared : (a : List ℕ) → history_at (insert t1 n changed) a ≡ cond (bytes_eq name a) (with_prepared (history_at t a) change) (history_at t a)
+  history-prepared a =
+      ap history_in (get-change t1 n changed a)
+      ∙ prepared_or (bytes_eq n a) (get t1 a) (get t a) (ap (λ u. history_in (get u a)) opened ∙ get-opened history_in t name fresh a new) (λ h. ap (get t1) (sym (bytes_same n a h)) ∙ there)
+      ∙ ap (λ x. cond (bytes_eq x a) (with_prepared (history_at t a) change) (history_at t a)) e
+
+-- assets that were opened, or left as they were
+pub assets-opened : {X T E : Type 0} (f : Option Reserved → X) (r : Result T E) (assets changed : NameTable Reserved) (asset : List ℕ) (fresh : Reserved)
+    → OnOk r (changed ≡ insert assets asset (unwrap_or (get assets asset) fresh)) → OnErr r (changed ≡ assets) → f (Some fresh) ≡ f None → (s : List ℕ) → f (get changed s) ≡ f (get assets s)
+assets-opened f (Ok u) assets changed asset fresh ok err h s = ap (λ t. f (get t s)) ok ∙ get-opened f assets asset fresh s h
+assets-opened f (Err u) assets changed asset fresh ok err h s = ap (λ t. f (get t s)) err
