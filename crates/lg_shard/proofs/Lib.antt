@@ -1,3 +1,5 @@
 pub mod SlotLemmas
 pub mod AccountLemmas
 pub mod MoveLists
+pub mod TieLemmas
+pub mod TableLemmas

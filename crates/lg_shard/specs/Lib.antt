@@ -4,3 +4,4 @@ pub mod Following
 pub mod Accounts
 pub mod Sides
 pub mod Names
+pub mod Ties
