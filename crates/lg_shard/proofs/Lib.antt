@@ -3,3 +3,5 @@ pub mod AccountLemmas
 pub mod MoveLists
 pub mod TieLemmas
 pub mod TableLemmas
+pub mod QuietLemmas
+pub mod LedgerLemmas

@@ -8,7 +8,7 @@ use Rattle.lg_types.specs.declared.records.Posting.{Posting}
 use Rattle.lg_types.specs.Moves.{Placed, what_of, is_of, out_move, in_move, posting_moves, pair_moves}
 use Rattle.lg_types.specs.Parts.{has_move}
 use Rattle.lg_shard.specs.Accounts.{one_if, only_if}
-use Rattle.lg_shard.specs.Following.{MovesFollow}
+use Rattle.lg_shard.specs.Holdings.{MovesFollow}
 use Rattle.lg_shard.specs.Shown.{index_move}
 use Rattle.lg_shard.specs.Sides.{is_side, side_count, side_moves, posting_count, posting_items}
 

@@ -19,7 +19,8 @@ use Rattle.lg_types.specs.Parts.{has_key, has_reference}
 use Rattle.lg_types.specs.Stripes.{stripe}
 use Rattle.lg_shard.specs.Names.{key_in, given_reference, reference_in}
 use Rattle.lg_shard.specs.Shown.{kept_of}
-use Rattle.lg_shard.specs.Ties.{own_markings, own_references, KeysTied, ReferencesTied}
+use Rattle.lg_shard.specs.Holdings.{own_markings, own_references}
+use Rattle.lg_shard.specs.Ties.{KeysTied, ReferencesTied}
 use Rattle.lg_shard.proofs.AccountLemmas.{get-change, bytes_same}
 
 module _ {M V : Type 0} (view : M → V) (name_of : M → List ℕ) where

@@ -11,10 +11,11 @@ use Rattle.lg_types.proofs.MoveSums.{pair_moves-append}
 use Rattle.lg_shard.specs.declared.accounts.AccountPart.{AccountPart}
 use Rattle.lg_moves.specs.declared.moves.Move.{Move}
 use Rattle.lg_shard.specs.Accounts.{items_at, waiting_at, SameHoldings, SameRoom, SameHistories}
-use Rattle.lg_shard.specs.Following.{MovesFollow}
+use Rattle.lg_shard.specs.Holdings.{MovesFollow}
 use Rattle.lg_shard.specs.Shown.{index_move}
 use Rattle.lg_shard.specs.Sides.{posting_count, posting_items}
-use Rattle.lg_shard.specs.Ties.{own_moves, MovesTied}
+use Rattle.lg_shard.specs.Holdings.{own_moves}
+use Rattle.lg_shard.specs.Ties.{MovesTied}
 use Rattle.lg_shard.proofs.MoveLists.{own-items, length-items}
 
 module _ (s : ℕ) (ledger : List ℕ) (e : Entry) (t : Transaction) (there : body_transaction e.body ≡ Some t) where

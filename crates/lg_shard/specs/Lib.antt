@@ -1,5 +1,6 @@
 pub mod State
 pub mod Shown
+pub mod Holdings
 pub mod Following
 pub mod Accounts
 pub mod Sides

@@ -1,32 +1,25 @@
 -- How indexes and tables stand for what shares hold: `done` of the shares that were applied, `ahead` of those that are prepared.
-use Rattle.std.specs.Prelude.{◌≡◌, ℕ, ◌≤◌, List, map, length, Option, Some, None}
+use Rattle.std.specs.Prelude.{◌≡◌, ℕ, ◌<◌, ◌≤◌, List, ◌++◌, length, Option, Some, None}
 use Rattle.std.specs.Option.{option_map}
-use Rattle.std.specs.List.{filter, find}
+use Rattle.std.specs.List.{find}
 use Rattle.lg_containers.specs.NameTable.{NameTable, get, empty}
 use Rattle.lg_keys.specs.Contents.{Contents}
 use Rattle.lg_keys.specs.declared.kept.Kept.{Kept}
+use Rattle.lg_types.specs.Known.{Marking, Referred, is_marking_of, is_referred_as, transaction_of}
+use Rattle.lg_types.specs.Moves.{Placed, pair_moves}
 use Rattle.lg_types.specs.declared.records.Entry.{Entry}
-use Rattle.lg_types.specs.Known.{Marking, Referred, marking, entry_keys, entry_references, is_marking_of, is_referred_as, transaction_of}
-use Rattle.lg_types.specs.Moves.{Placed, pair_moves, entry_moves}
-use Rattle.lg_types.specs.Parts.{Share, has_move, has_key, has_reference, part_moves, part_markings, part_references}
+use Rattle.lg_types.specs.declared.records.Event.TheVariants.{Logged}
+use Rattle.lg_types.specs.Parts.{Share, shares_of}
 use Rattle.lg_shard.specs.declared.accounts.AccountPart.{AccountPart}
 use Rattle.lg_shard.specs.declared.ledgers.LedgerPart.{LedgerPart}
 use Rattle.lg_shard.specs.Accounts.{items_at, waiting_at}
-use Rattle.lg_shard.specs.Shown.{index_move, kept_of}
-
--- what an entry holds of the stripe
-abbrev pub own_moves : ℕ → List ℕ → Entry → List Placed
-own_moves s ledger e = filter (has_move s ledger) (entry_moves e)
-
-abbrev pub own_markings : ℕ → List ℕ → Entry → List Marking
-own_markings s ledger e = map (marking e.id) (filter (has_key s ledger) (entry_keys e))
-
-abbrev pub own_references : ℕ → List ℕ → Entry → List Referred
-own_references s ledger e = filter (has_reference s ledger) (entry_references e)
+use Rattle.lg_shard.specs.Following.{Follows}
+use Rattle.lg_shard.specs.Holdings.{Holding, ledger_holding, moves_on}
+use Rattle.lg_shard.specs.Shown.{kept_of}
 
 -- each index holds the moves that were applied, and has room for those that are prepared
 pub record MovesTied (accounts : NameTable AccountPart) (done ahead : List Placed) : Type 0 where
-  pub items : (account asset : List ℕ) → items_at accounts account asset ≡ map index_move (pair_moves done account asset)
+  pub items : (account asset : List ℕ) → items_at accounts account asset ≡ moves_on done account asset
   pub room : (account asset : List ℕ) → length (pair_moves ahead account asset) ≤ waiting_at accounts account asset
 
 pub record KeysTied (keys : Contents Kept) (done ahead : List Marking) : Type 0 where
@@ -50,10 +43,28 @@ abbrev pub references_of : Option LedgerPart → Contents ℕ
 references_of None = record { table = empty; spare = 0 }
 references_of (Some part) = part.references
 
-pub record LedgerTied (part : Option LedgerPart) (ledger : List ℕ) (shares coming : List Share) : Type 0 where
-  pub moves : MovesTied (accounts_of part) (part_moves ledger shares) (part_moves ledger coming)
-  pub keys : KeysTied (keys_of part) (part_markings ledger shares) (part_markings ledger coming)
-  pub references : ReferencesTied (references_of part) (part_references ledger shares) (part_references ledger coming)
+-- the part of a ledger stands for what was applied, and is ready for what is prepared
+pub record PartTied (part : Option LedgerPart) (done ahead : Holding) : Type 0 where
+  pub moves : MovesTied (accounts_of part) done.moves ahead.moves
+  pub keys : KeysTied (keys_of part) done.markings ahead.markings
+  pub references : ReferencesTied (references_of part) done.references ahead.references
 
+-- so does the part of each ledger
 abbrev pub LedgersTied : NameTable LedgerPart → List Share → List Share → Type 0
-LedgersTied ledgers shares coming = (ledger : List ℕ) → LedgerTied (get ledgers ledger) ledger shares coming
+LedgersTied ledgers shares coming = (ledger : List ℕ) → PartTied (get ledgers ledger) (ledger_holding ledger shares) (ledger_holding ledger coming)
+
+-- there is room for one key and one reference more
+pub record IsRoomFor (count : ℕ) (ahead : Holding) : Type 0 where
+  pub markings : length ahead.markings < count
+  pub references : length ahead.references < count
+
+abbrev pub AreRoomFor : ℕ → List Share → Type 0
+AreRoomFor count coming = (ledger : List ℕ) → IsRoomFor count (ledger_holding ledger coming)
+
+-- the ledgers are ready for the entry to be applied
+pub record IsReadyFor (ledgers : NameTable LedgerPart) (s : ℕ) (ledger : List ℕ) (e : Entry) : Type 0 where
+  pub place : ℕ
+  pub shares : List Share
+  pub coming : List Share
+  pub tied : LedgersTied ledgers shares (shares_of s place (Logged ledger e) ++ coming)
+  pub follows : Follows shares (shares_of s place (Logged ledger e))

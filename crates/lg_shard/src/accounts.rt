@@ -4,7 +4,7 @@ ghost use Rattle.std.specs.Prelude.{◌≡◌, ℕ, ◌+◌, ◌-◌, ◌<◌, L
 ghost use Rattle.std.specs.Str.{bytes_eq};
 ghost use Rattle.lg_containers.specs.NameTable as table;
 ghost use Rattle.lg_shard.specs.Accounts.{slot_at, items_at, waiting_at, history_at, no_history, with_prepared, is_pair, one_if, only_if, SameHoldings, SameRoom, SameHistories, SameSlots};
-ghost use Rattle.lg_shard.specs.Following.{MovesFollow};
+ghost use Rattle.lg_shard.specs.Holdings.{MovesFollow};
 
 use crate::reserved::Reserved;
 use crate::slots::Slots;

@@ -3,9 +3,10 @@
 ghost use Rattle.std.specs.Prelude.{◌≡◌, ℕ, ◌≤◌, List, [], ◌++◌, length, map, OnOk, OnErr};
 ghost use Rattle.lg_types.specs.Moves.{Placed, pair_moves};
 ghost use Rattle.lg_shard.specs.Accounts.{items_at, waiting_at, SameHistories};
-ghost use Rattle.lg_shard.specs.Following.{MovesFollow};
+ghost use Rattle.lg_shard.specs.Holdings.{MovesFollow};
 ghost use Rattle.lg_shard.specs.Shown.{index_move};
-ghost use Rattle.lg_shard.specs.Ties.{own_moves, MovesTied};
+ghost use Rattle.lg_shard.specs.Holdings.{own_moves};
+ghost use Rattle.lg_shard.specs.Ties.{MovesTied};
 
 use crate::accounts::Accounts;
 use crate::entry_moves::{apply_postings, release_postings, reserve_postings};

@@ -4,7 +4,7 @@ ghost use Rattle.std.specs.Prelude.{◌≡◌, ℕ, ◌+◌, ◌-◌, ◌≤◌,
 ghost use Rattle.std.specs.List.{flat_map};
 ghost use Rattle.lg_types.specs.Parts.{has_account};
 ghost use Rattle.lg_shard.specs.Accounts.{items_at, waiting_at, SameHoldings, SameRoom, SameHistories};
-ghost use Rattle.lg_shard.specs.Following.{MovesFollow};
+ghost use Rattle.lg_shard.specs.Holdings.{MovesFollow};
 ghost use Rattle.lg_shard.specs.Sides.{side_count, side_moves, posting_count, posting_items};
 
 use crate::accounts::{Accounts, apply_pair, has_pair, open_pair, release_pair, reserve_pair};

@@ -1,12 +1,24 @@
-//! What one ledger holds of the stripe.
+//! What the ledgers hold of the stripe.
 
-ghost use Rattle.std.specs.Prelude.{◌≡◌, ℕ, ◌+◌, ◌≤◌, ◌<◌, List, [], ◌++◌, length, OnOk, OnErr, IfOk};
+ghost use Rattle.std.specs.Prelude.{◌≡◌, ℕ, ◌+◌, ◌≤◌, ◌<◌, List, [], ◌++◌, length, OnOk, OnErr, IfOk, IsSome, Some};
 ghost use Rattle.lg_containers.specs.NameTable as table;
+ghost use Rattle.lg_types.specs.declared.records.Event.TheVariants.{Logged};
+ghost use Rattle.lg_types.specs.Parts.{Share, shares_of};
+ghost use Rattle.lg_shard.specs.Holdings.{Holding, HoldingFollows, joined, no_holding, own_holding};
+ghost use Rattle.lg_shard.specs.Names.{names_in};
+ghost use Rattle.lg_shard.specs.Ties.{PartTied, LedgersTied, IsRoomFor, AreRoomFor, IsReadyFor};
 
 use crate::accounts::Accounts;
+use crate::entries::{apply_moves, release_moves, reserve_moves};
+use crate::names::{Names, own_names};
 use crate::slots::Slots;
+use crate::tables::{apply_key, apply_reference};
+use lg_containers::{LedgerName, LedgerNameGrammar, NoMemory};
 use lg_keys::{KeyTable, ReferenceTable};
+use lg_runs::Steps;
+use lg_types::Entry;
 use std::alloc::Global;
+use std::sync::ledger::Ledger;
 
 /// What one ledger holds of the stripe.
 #[derive(Drop)]
@@ -15,6 +27,9 @@ pub struct LedgerPart {
     pub(crate) keys: KeyTable,
     pub(crate) references: ReferenceTable,
 }
+
+/// What each ledger holds of the stripe.
+pub type Ledgers = Slots<LedgerNameGrammar, LedgerPart>;
 
 impl LedgerPart {
     /// Nothing.
@@ -28,5 +43,100 @@ impl LedgerPart {
             keys: KeyTable::new(alloc),
             references: ReferenceTable::new(alloc),
         }
+    }
+}
+
+// Makes the part ready for an entry of its ledger, as the last of at most `count` that are prepared.
+fn prepare_part(
+    alloc: Global,
+    part: &mut LedgerPart,
+    stripe: u8,
+    ledger: &LedgerName,
+    entry: &Entry,
+    count: usize,
+) -> Result<Names, NoMemory>
+    ensures names { IfOk result (λ names. names ≡ names_in stripe ledger.now entry.now) }
+    ensures ok { OnOk result ((done ahead : Holding) → IsRoomFor count ahead → PartTied (Some part.old) done ahead → PartTied (Some part.new) done (joined ahead (own_holding stripe ledger.now entry.now))) }
+    ensures err { OnErr result ((done ahead : Holding) → PartTied (Some part.old) done ahead → PartTied (Some part.new) done ahead) }
+{
+    part.keys.prepare(count)?;
+    part.references.prepare(count)?;
+    let names = own_names(alloc, stripe, ledger, entry)?;
+    reserve_moves(alloc, &mut part.accounts, stripe, ledger, entry)?;
+    Ok(names)
+}
+
+// Applies a prepared entry.
+fn apply_part<L: Ledger>(
+    part: &mut LedgerPart,
+    stripe: u8,
+    ledger: &LedgerName,
+    entry: &Entry,
+    names: Names,
+    steps: &mut Steps<L>,
+)
+    requires names { names ≡ names_in stripe ledger.now entry.now }
+    requires ready { (done : Holding) × (ahead : Holding) × PartTied (Some part.old) done (joined (own_holding stripe ledger.now entry.now) ahead) × HoldingFollows done (own_holding stripe ledger.now entry.now) }
+    ensures { (done ahead : Holding) → PartTied (Some part.old) done (joined (own_holding stripe ledger.now entry.now) ahead) → PartTied (Some part.new) (joined done (own_holding stripe ledger.now entry.now)) ahead }
+{
+    let Names { key, reference } = names;
+    apply_key(&mut part.keys, stripe, ledger, entry, key);
+    apply_reference(&mut part.references, stripe, ledger, entry, reference);
+    apply_moves(&mut part.accounts, stripe, ledger, entry, steps);
+}
+
+// Gives back the room of an entry.
+fn release_part(part: &mut LedgerPart, stripe: u8, ledger: &LedgerName, entry: &Entry)
+    ensures { (done ahead : Holding) → PartTied (Some part.old) done ahead → PartTied (Some part.new) done no_holding }
+{
+    release_moves(&mut part.accounts, stripe, ledger, entry);
+}
+
+/// Makes the ledgers ready for an entry, as the last of at most `count` that are prepared.
+pub fn prepare_entry(
+    alloc: Global,
+    ledgers: &mut Ledgers,
+    stripe: u8,
+    ledger: &LedgerName,
+    entry: &Entry,
+    count: usize,
+) -> Result<Names, NoMemory>
+    ensures names { IfOk result (λ names. names ≡ names_in stripe ledger.now entry.now) }
+    ensures ok { OnOk result ((place : ℕ) (shares coming : List Share) → AreRoomFor count coming → LedgersTied ledgers.old shares coming → LedgersTied ledgers.new shares (coming ++ shares_of stripe place (Logged ledger.now entry.now))) }
+    ensures err { OnErr result ((shares coming : List Share) → LedgersTied ledgers.old shares coming → LedgersTied ledgers.new shares coming) }
+    ensures there { OnOk result (IsSome (table.get ledgers.new ledger.now)) }
+    ensures still { (q : List ℕ) → IsSome (table.get ledgers.old q) → IsSome (table.get ledgers.new q) }
+{
+    ledgers.open(alloc, ledger, LedgerPart::new(alloc))?;
+    let part = ledgers.value_mut(ledger.bytes());
+    prepare_part(alloc, part, stripe, ledger, entry, count)
+}
+
+/// Applies a prepared entry.
+pub fn apply_entry<L: Ledger>(
+    ledgers: &mut Ledgers,
+    stripe: u8,
+    ledger: &LedgerName,
+    entry: &Entry,
+    names: Names,
+    steps: &mut Steps<L>,
+)
+    requires there { IsSome (table.get ledgers.old ledger.now) }
+    requires names { names ≡ names_in stripe ledger.now entry.now }
+    requires ready { IsReadyFor ledgers.old stripe ledger.now entry.now }
+    ensures tied { (place : ℕ) (shares coming : List Share) → LedgersTied ledgers.old shares (shares_of stripe place (Logged ledger.now entry.now) ++ coming) → LedgersTied ledgers.new (shares ++ shares_of stripe place (Logged ledger.now entry.now)) coming }
+    ensures still { (q : List ℕ) → IsSome (table.get ledgers.old q) → IsSome (table.get ledgers.new q) }
+{
+    let part = ledgers.value_mut(ledger.bytes());
+    apply_part(part, stripe, ledger, entry, names, steps);
+}
+
+/// Gives back the room of an entry.
+pub fn release_entry(ledgers: &mut Ledgers, stripe: u8, ledger: &LedgerName, entry: &Entry)
+    ensures { (shares coming : List Share) → LedgersTied ledgers.old shares coming → LedgersTied ledgers.new shares [] }
+{
+    if ledgers.find(ledger.bytes()).is_some() {
+        let part = ledgers.value_mut(ledger.bytes());
+        release_part(part, stripe, ledger, entry);
     }
 }

@@ -6,7 +6,8 @@ ghost use Rattle.lg_types.specs.Lists.{Each};
 ghost use Rattle.lg_types.specs.Moves.{body_transaction};
 ghost use Rattle.lg_containers.specs.NameTable as table;
 ghost use Rattle.lg_shard.specs.Names.{key_in, reference_in};
-ghost use Rattle.lg_shard.specs.Ties.{own_markings, own_references, KeysTied, ReferencesTied};
+ghost use Rattle.lg_shard.specs.Holdings.{own_markings, own_references};
+ghost use Rattle.lg_shard.specs.Ties.{KeysTied, ReferencesTied};
 
 use crate::names::transaction_of;
 use lg_containers::{Key, Reference};

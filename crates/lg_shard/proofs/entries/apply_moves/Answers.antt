@@ -3,9 +3,9 @@ use Rattle.std.specs.List.{flat_map}
 use Rattle.lg_moves.specs.declared.moves.Move.{Move}
 use Rattle.lg_types.specs.Moves.{pair_moves}
 use Rattle.lg_shard.specs.Accounts.{items_at, waiting_at}
-use Rattle.lg_shard.specs.Following.{MovesFollow}
+use Rattle.lg_shard.specs.Holdings.{MovesFollow}
 use Rattle.lg_shard.specs.Sides.{posting_count, posting_items}
-use Rattle.lg_shard.specs.Ties.{own_moves}
+use Rattle.lg_shard.specs.Holdings.{own_moves}
 use Rattle.lg_shard.proofs.TieLemmas.{moves-applied, count-moves, own-moves}
 use Rattle.lg_shard.proofs.entries.apply_moves.Goals as goal
 

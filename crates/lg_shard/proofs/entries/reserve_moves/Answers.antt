@@ -2,7 +2,7 @@ use Rattle.std.proofs.Common.{◌+◌, sum_by, ap, sym, ◌∙◌}
 use Rattle.std.proofs.lemmas.Result.{on_ok_weaker}
 use Rattle.lg_shard.specs.Accounts.{waiting_at}
 use Rattle.lg_shard.specs.Sides.{posting_count}
-use Rattle.lg_shard.specs.Ties.{own_moves}
+use Rattle.lg_shard.specs.Holdings.{own_moves}
 use Rattle.lg_shard.proofs.TieLemmas.{moves-reserved, count-moves}
 use Rattle.lg_shard.proofs.entries.reserve_moves.Goals as goal
 

@@ -1,7 +1,7 @@
 use Rattle.std.proofs.Common.{◌≡◌, ℕ, ◌+◌, ◌≤◌, List, ◌++◌, take, drop, sum_by}
 use Rattle.std.specs.List.{flat_map}
 use Rattle.lg_shard.specs.Accounts.{items_at, waiting_at, SameHistories}
-use Rattle.lg_shard.specs.Following.{MovesFollow}
+use Rattle.lg_shard.specs.Holdings.{MovesFollow}
 use Rattle.lg_shard.specs.Sides.{posting_count, posting_items}
 use Rattle.lg_shard.proofs.entry_moves.apply_postings.Given as goal
 

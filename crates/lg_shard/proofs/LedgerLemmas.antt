@@ -1,0 +1,146 @@
+-- How the ties of all ledgers go from state to state.
+use Rattle.std.proofs.Common.{◌≡◌, ℕ, ◌≤◌, Bool, true, false, cond, List, [], ◌++◌, Option, Some, None, IsSome, unwrap_or, refl, sym, ap, subst, ◌∙◌, arith}
+use Rattle.std.specs.Str.{bytes_eq}
+use Rattle.lg_containers.specs.NameTable.{NameTable, get, insert, empty, get-empty}
+use Rattle.lg_keys.specs.Contents.{Contents}
+use Rattle.lg_keys.specs.declared.kept.Kept.{Kept}
+use Rattle.lg_types.specs.declared.records.Entry.{Entry}
+use Rattle.lg_types.specs.declared.records.Event.TheVariants.{Logged}
+use Rattle.lg_types.specs.Parts.{Share, shares_of}
+use Rattle.lg_shard.specs.declared.accounts.AccountPart.{AccountPart}
+use Rattle.lg_shard.specs.declared.ledgers.LedgerPart.{LedgerPart}
+use Rattle.lg_shard.specs.Following.{Follows}
+use Rattle.lg_shard.specs.Holdings.{Holding, HoldingFollows, no_holding, joined, ledger_holding, own_holding}
+use Rattle.lg_shard.specs.Ties.{MovesTied, KeysTied, ReferencesTied, accounts_of, keys_of, references_of, PartTied, LedgersTied, IsRoomFor, AreRoomFor}
+use Rattle.lg_shard.proofs.AccountLemmas.{get-change, get-opened, bytes_same, bytes_itself, opened_there}
+use Rattle.lg_shard.proofs.QuietLemmas.{holding-joined, joined-nothing, holding-logged}
+
+-- a part stands for the same as one with equal accounts and tables
+pub same_part : (o p : Option LedgerPart) → accounts_of p ≡ accounts_of o → keys_of p ≡ keys_of o → references_of p ≡ references_of o → (done ahead : Holding) → PartTied o done ahead → PartTied p done ahead
+same_part o p a k r done ahead tied = record {
+  moves = subst (λ (t : NameTable AccountPart). MovesTied t done.moves ahead.moves) (sym a) tied.moves;
+  keys = subst (λ (t : Contents Kept). KeysTied t done.markings ahead.markings) (sym k) tied.keys;
+  references = subst (λ (t : Contents ℕ). ReferencesTied t done.references ahead.references) (sym r) tied.references;
+}
+
+-- nothing is prepared
+pub part-forgotten : (o : Option LedgerPart) (done ahead : Holding) → PartTied o done ahead → PartTied o done no_holding
+part-forgotten o done ahead tied = record {
+  moves = record { items = tied.moves.items; room = λ a b. omega arith };
+  keys = record { known = tied.keys.known; room = omega arith };
+  references = record { known = tied.references.known; room = omega arith };
+}
+
+-- a ledger that was opened
+pub ledgers-opened : (old : NameTable LedgerPart) (name : List ℕ) (fresh : LedgerPart) (mid : NameTable LedgerPart) → mid ≡ insert old name (unwrap_or (get old name) fresh)
+    → fresh.accounts ≡ empty → fresh.keys ≡ record { table = empty; spare = 0 } → fresh.references ≡ record { table = empty; spare = 0 }
+    → (shares coming : List Share) → LedgersTied old shares coming → LedgersTied mid shares coming
+ledgers-opened old name fresh mid opened a k r shares coming tied q =
+    same_part (get old q) (get mid q)
+    (ap (λ t. accounts_of (get t q)) opened ∙ get-opened accounts_of old name fresh q a)
+    (ap (λ t. keys_of (get t q)) opened ∙ get-opened keys_of old name fresh q k)
+    (ap (λ t. references_of (get t q)) opened ∙ get-opened references_of old name fresh q r)
+    (ledger_holding q shares) (ledger_holding q coming) (tied q)
+
+-- a ledger whose part changes: what comes of its part, and of the parts that stay
+module _ (mid : NameTable LedgerPart) (n : List ℕ) (part changed : LedgerPart) (there : get mid n ≡ Some part) where
+  changed_or : (P Q : Option LedgerPart → Type 0) (o : Option LedgerPart) (b : Bool) → (b ≡ true → o ≡ Some part) → (b ≡ true → P (Some part) → Q (Some changed)) → (b ≡ false → P o → Q o) → P o → Q (cond b (Some changed) o)
+  changed_or P Q o true is here other p = here refl (subst P (is refl) p)
+  changed_or P Q o false is here other p = other refl p
+
+  pub ledger-changed : (P Q : Option LedgerPart → Type 0) (q : List ℕ) → (bytes_eq n q ≡ true → P (Some part) → Q (Some changed)) → (bytes_eq n q ≡ false → P (get mid q) → Q (get mid q)) → P (get mid q) → Q (get (insert mid n changed) q)
+  ledger-changed P Q q here other p =
+      subst Q (sym (get-change mid n changed q))
+      (changed_or P Q (get mid q) (bytes_eq n q) (λ h. ap (get mid) (sym (bytes_same n q h)) ∙ there) here other p)
+
+  still_or : (o : Option LedgerPart) (b : Bool) → IsSome o → IsSome (cond b (Some changed) o)
+  still_or o true h = refl
+  still_or o false h = h
+
+  pub still_there : (q : List ℕ) → IsSome (get mid q) → IsSome (get (insert mid n changed) q)
+  still_there q h = let P : Option LedgerPart → Type 0 = λ o. IsSome o in subst P (sym (get-change mid n changed q)) (still_or (get mid q) (bytes_eq n q) h)
+
+module _ (s place : ℕ) (ledger : List ℕ) (e : Entry) (q : List ℕ) where
+  pub holding_own : bytes_eq ledger q ≡ true → ledger_holding q (shares_of s place (Logged ledger e)) ≡ own_holding s ledger e
+  holding_own h = holding-logged s place ledger e q ∙ ap (λ b. cond b (own_holding s ledger e) no_holding) h
+
+  pub holding_other : bytes_eq ledger q ≡ false → ledger_holding q (shares_of s place (Logged ledger e)) ≡ no_holding
+  holding_other h = holding-logged s place ledger e q ∙ ap (λ b. cond b (own_holding s ledger e) no_holding) h
+
+  pub after_own : (xs : List Share) → bytes_eq ledger q ≡ true → ledger_holding q (xs ++ shares_of s place (Logged ledger e)) ≡ joined (ledger_holding q xs) (own_holding s ledger e)
+  after_own xs h = holding-joined q xs _ ∙ ap (joined (ledger_holding q xs)) (holding_own h)
+
+  pub after_other : (xs : List Share) → bytes_eq ledger q ≡ false → ledger_holding q (xs ++ shares_of s place (Logged ledger e)) ≡ ledger_holding q xs
+  after_other xs h = holding-joined q xs _ ∙ ap (joined (ledger_holding q xs)) (holding_other h) ∙ joined-nothing (ledger_holding q xs)
+
+  pub before_own : (xs : List Share) → bytes_eq ledger q ≡ true → ledger_holding q (shares_of s place (Logged ledger e) ++ xs) ≡ joined (own_holding s ledger e) (ledger_holding q xs)
+  before_own xs h = holding-joined q _ xs ∙ ap (λ x. joined x (ledger_holding q xs)) (holding_own h)
+
+  pub before_other : (xs : List Share) → bytes_eq ledger q ≡ false → ledger_holding q (shares_of s place (Logged ledger e) ++ xs) ≡ ledger_holding q xs
+  before_other xs h = holding-joined q _ xs ∙ ap (λ x. joined x (ledger_holding q xs)) (holding_other h)
+
+module _ (mid : NameTable LedgerPart) (ledger n : List ℕ) (en : n ≡ ledger) (part changed : LedgerPart) (there : get mid n ≡ Some part) where
+  as_ledger : (q : List ℕ) (b : Bool) → bytes_eq n q ≡ b → bytes_eq ledger q ≡ b
+  as_ledger q b h = ap (λ x. bytes_eq x q) (sym en) ∙ h
+
+  -- one entry more is prepared
+  pub ledgers-prepared : (s place : ℕ) (e : Entry) (shares coming : List Share) (count : ℕ) → AreRoomFor count coming
+      → ((done ahead : Holding) → IsRoomFor count ahead → PartTied (Some part) done ahead → PartTied (Some changed) done (joined ahead (own_holding s ledger e)))
+      → LedgersTied mid shares coming → LedgersTied (insert mid n changed) shares (coming ++ shares_of s place (Logged ledger e))
+  ledgers-prepared s place e shares coming count room step tied q =
+      let done : Holding = ledger_holding q shares in
+      ledger-changed mid n part changed there (λ o. PartTied o done (ledger_holding q coming)) (λ o. PartTied o done (ledger_holding q (coming ++ shares_of s place (Logged ledger e)))) q
+      (λ h p. subst (λ (x : Holding). PartTied (Some changed) done x) (sym (after_own s place ledger e q coming (as_ledger q true h))) (step done (ledger_holding q coming) (room q) p))
+      (λ h p. subst (λ (x : Holding). PartTied (get mid q) done x) (sym (after_other s place ledger e q coming (as_ledger q false h))) p)
+      (tied q)
+
+  -- nothing more is prepared
+  pub ledgers-kept : (shares coming : List Share) → ((done ahead : Holding) → PartTied (Some part) done ahead → PartTied (Some changed) done ahead)
+      → LedgersTied mid shares coming → LedgersTied (insert mid n changed) shares coming
+  ledgers-kept shares coming step tied q =
+      ledger-changed mid n part changed there (λ o. PartTied o (ledger_holding q shares) (ledger_holding q coming)) (λ o. PartTied o (ledger_holding q shares) (ledger_holding q coming)) q
+      (λ h p. step (ledger_holding q shares) (ledger_holding q coming) p) (λ h p. p) (tied q)
+
+  -- the first prepared entry is applied
+  pub ledgers-applied : (s place : ℕ) (e : Entry) (shares coming : List Share)
+      → ((done ahead : Holding) → PartTied (Some part) done (joined (own_holding s ledger e) ahead) → PartTied (Some changed) (joined done (own_holding s ledger e)) ahead)
+      → LedgersTied mid shares (shares_of s place (Logged ledger e) ++ coming) → LedgersTied (insert mid n changed) (shares ++ shares_of s place (Logged ledger e)) coming
+  ledgers-applied s place e shares coming step tied q =
+      let ahead : Holding = ledger_holding q coming in let new : List Share = shares_of s place (Logged ledger e) in
+      ledger-changed mid n part changed there (λ o. PartTied o (ledger_holding q shares) (ledger_holding q (new ++ coming))) (λ o. PartTied o (ledger_holding q (shares ++ new)) ahead) q
+      (λ h p. subst (λ (x : Holding). PartTied (Some changed) x ahead) (sym (after_own s place ledger e q shares (as_ledger q true h)))
+      (step (ledger_holding q shares) ahead (subst (λ (x : Holding). PartTied (Some part) (ledger_holding q shares) x) (before_own s place ledger e q coming (as_ledger q true h)) p)))
+      (λ h p. subst (λ (x : Holding). PartTied (get mid q) x ahead) (sym (after_other s place ledger e q shares (as_ledger q false h)))
+      (subst (λ (x : Holding). PartTied (get mid q) (ledger_holding q shares) x) (before_other s place ledger e q coming (as_ledger q false h)) p))
+      (tied q)
+
+  -- nothing is prepared any more
+  pub ledgers-released : (shares coming : List Share) → ((done ahead : Holding) → PartTied (Some part) done ahead → PartTied (Some changed) done no_holding)
+      → LedgersTied mid shares coming → LedgersTied (insert mid n changed) shares []
+  ledgers-released shares coming step tied q =
+      ledger-changed mid n part changed there (λ o. PartTied o (ledger_holding q shares) (ledger_holding q coming)) (λ o. PartTied o (ledger_holding q shares) no_holding) q
+      (λ h p. step (ledger_holding q shares) (ledger_holding q coming) p) (λ h p. part-forgotten (get mid q) (ledger_holding q shares) (ledger_holding q coming) p) (tied q)
+
+pub ledgers-forgotten : (ledgers : NameTable LedgerPart) (shares coming : List Share) → LedgersTied ledgers shares coming → LedgersTied ledgers shares []
+ledgers-forgotten ledgers shares coming tied q = part-forgotten (get ledgers q) (ledger_holding q shares) (ledger_holding q coming) (tied q)
+
+-- what the part of the ledger is ready for
+module _ (ledgers : NameTable LedgerPart) (s place : ℕ) (ledger : List ℕ) (e : Entry) (n : List ℕ) (en : n ≡ ledger) (part : LedgerPart) (there : get ledgers n ≡ Some part) (shares coming : List Share) where
+  pub part-ready : LedgersTied ledgers shares (shares_of s place (Logged ledger e) ++ coming) → PartTied (Some part) (ledger_holding ledger shares) (joined (own_holding s ledger e) (ledger_holding ledger coming))
+  part-ready tied =
+      subst (λ (x : Holding). PartTied (Some part) (ledger_holding ledger shares) x) (before_own s place ledger e ledger coming (bytes_itself ledger))
+      (subst (λ (o : Option LedgerPart). PartTied o (ledger_holding ledger shares) (ledger_holding ledger (shares_of s place (Logged ledger e) ++ coming))) (ap (get ledgers) (sym en) ∙ there) (tied ledger))
+
+  pub part-follows : Follows shares (shares_of s place (Logged ledger e)) → HoldingFollows (ledger_holding ledger shares) (own_holding s ledger e)
+  part-follows follows = subst (λ (x : Holding). HoldingFollows (ledger_holding ledger shares) x) (holding_own s place ledger e ledger (bytes_itself ledger)) (follows ledger)
+
+-- a ledger that was opened, and those that were there, are there after a change
+pub opened_still : (old mid : NameTable LedgerPart) (name : List ℕ) (fresh : LedgerPart) → mid ≡ insert old name (unwrap_or (get old name) fresh) → (q : List ℕ) → IsSome (get old q) → IsSome (get mid q)
+opened_still old mid name fresh opened q h =
+    let P : NameTable LedgerPart → Type 0 = λ t. IsSome (get t q) in
+    let Q : Option LedgerPart → Type 0 = λ o. IsSome o in
+    subst P (sym opened) (subst Q (sym (get-change old name _ q)) (still_some (unwrap_or (get old name) fresh) (get old q) (bytes_eq name q) h))
+  where
+    still_some : (v : LedgerPart) (o : Option LedgerPart) (b : Bool) → IsSome o → IsSome (cond b (Some v) o)
+    still_some v o true h = refl
+    still_some v o false h = h

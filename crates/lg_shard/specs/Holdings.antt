@@ -1,0 +1,63 @@
+-- What shares hold of one ledger, and when it may follow.
+use Rattle.std.specs.Prelude.{◌≡◌, ℕ, List, [], ◌∷◌, ◌++◌, map, Option, None}
+use Rattle.std.specs.Option.{option_map}
+use Rattle.std.specs.List.{filter, find}
+use Rattle.lg_base.specs.Volumes.{IsWithinLimit}
+use Rattle.lg_moves.specs.declared.moves.Move.{Move}
+use Rattle.lg_moves.specs.Moves.{ComesNext, total_of}
+use Rattle.lg_types.specs.declared.records.Entry.{Entry}
+use Rattle.lg_types.specs.Known.{Marking, Referred, marking, entry_keys, entry_references, is_marking_of, is_referred_as, transaction_of}
+use Rattle.lg_types.specs.Lists.{Each}
+use Rattle.lg_types.specs.Moves.{Placed, pair_moves, entry_moves}
+use Rattle.lg_types.specs.Parts.{Share, has_move, has_key, has_reference, part_moves, part_markings, part_references}
+use Rattle.lg_shard.specs.Shown.{index_move, kept_of}
+
+-- moves, keys and references of one ledger
+pub record Holding : Type 0 where
+  pub moves : List Placed
+  pub markings : List Marking
+  pub references : List Referred
+
+abbrev pub no_holding : Holding
+no_holding = record { moves = []; markings = []; references = [] }
+
+abbrev pub joined : Holding → Holding → Holding
+joined x y = record { moves = x.moves ++ y.moves; markings = x.markings ++ y.markings; references = x.references ++ y.references }
+
+-- what shares hold of a ledger
+abbrev pub ledger_holding : List ℕ → List Share → Holding
+ledger_holding ledger shares = record { moves = part_moves ledger shares; markings = part_markings ledger shares; references = part_references ledger shares }
+
+-- what an entry of the ledger holds of the stripe
+abbrev pub own_moves : ℕ → List ℕ → Entry → List Placed
+own_moves s ledger e = filter (has_move s ledger) (entry_moves e)
+
+abbrev pub own_markings : ℕ → List ℕ → Entry → List Marking
+own_markings s ledger e = map (marking e.id) (filter (has_key s ledger) (entry_keys e))
+
+abbrev pub own_references : ℕ → List ℕ → Entry → List Referred
+own_references s ledger e = filter (has_reference s ledger) (entry_references e)
+
+abbrev pub own_holding : ℕ → List ℕ → Entry → Holding
+own_holding s ledger e = record { moves = own_moves s ledger e; markings = own_markings s ledger e; references = own_references s ledger e }
+
+-- the moves of an account and an asset, as their index keeps them
+abbrev pub moves_on : List Placed → List ℕ → List ℕ → List Move
+moves_on ms account asset = map index_move (pair_moves ms account asset)
+
+-- one after the other, each move comes next and keeps the totals within the limit
+abbrev pub MovesFollow : List Move → List Move → Type 0
+MovesFollow before [] = Unit {0}
+MovesFollow before (m ∷ ms) = ComesNext before m × IsWithinLimit (total_of (before ++ m ∷ [])) × MovesFollow (before ++ m ∷ []) ms
+
+abbrev pub IsNewKey : List Marking → Marking → Type 0
+IsNewKey markings m = find (is_marking_of m.mark.key) markings ≡ None
+
+abbrev pub IsNewReference : List Referred → Referred → Type 0
+IsNewReference references r = find (is_referred_as r.reference) references ≡ None
+
+-- each move, key and reference meets what its index or its table asks of the next one
+pub record HoldingFollows (held new : Holding) : Type 0 where
+  pub moves : (account asset : List ℕ) → MovesFollow (moves_on held.moves account asset) (moves_on new.moves account asset)
+  pub keys : Each (IsNewKey held.markings) new.markings
+  pub references : Each (IsNewReference held.references) new.references
