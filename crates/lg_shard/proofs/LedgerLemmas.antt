@@ -9,6 +9,7 @@ use Rattle.lg_types.specs.declared.records.Event.TheVariants.{Logged}
 use Rattle.lg_types.specs.Parts.{Share, shares_of}
 use Rattle.lg_shard.specs.declared.accounts.AccountPart.{AccountPart}
 use Rattle.lg_shard.specs.declared.ledgers.LedgerPart.{LedgerPart}
+use Rattle.lg_shard.specs.Accounts.{slot_in, items_of}
 use Rattle.lg_shard.specs.Following.{Follows}
 use Rattle.lg_shard.specs.Holdings.{Holding, HoldingFollows, no_holding, joined, ledger_holding, own_holding}
 use Rattle.lg_shard.specs.Ties.{MovesTied, KeysTied, ReferencesTied, accounts_of, keys_of, references_of, PartTied, LedgersTied, IsRoomFor, AreRoomFor}
@@ -144,3 +145,14 @@ opened_still old mid name fresh opened q h =
     still_some : (v : LedgerPart) (o : Option LedgerPart) (b : Bool) → IsSome o → IsSome (cond b (Some v) o)
     still_some v o true h = refl
     still_some v o false h = h
+
+-- where there is nothing, nothing is held
+nothing_held : PartTied None no_holding no_holding
+nothing_held = record {
+  moves = record { items = λ a b. ap (λ o. items_of (slot_in o b)) (get-empty AccountPart a); room = λ a b. omega arith };
+  keys = record { known = λ key. get-empty Kept key; room = omega arith };
+  references = record { known = λ reference. get-empty ℕ reference; room = omega arith };
+}
+
+pub nothing_tied : (ledgers : NameTable LedgerPart) → ledgers ≡ empty → LedgersTied ledgers [] []
+nothing_tied ledgers h q = subst (λ (o : Option LedgerPart). PartTied o no_holding no_holding) (sym (ap (λ t. get t q) h ∙ get-empty LedgerPart q)) nothing_held

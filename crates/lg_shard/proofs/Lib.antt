@@ -5,3 +5,4 @@ pub mod TieLemmas
 pub mod TableLemmas
 pub mod QuietLemmas
 pub mod LedgerLemmas
+pub mod HeldLemmas

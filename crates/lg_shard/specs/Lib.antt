@@ -6,3 +6,4 @@ pub mod Accounts
 pub mod Sides
 pub mod Names
 pub mod Ties
+pub mod Held

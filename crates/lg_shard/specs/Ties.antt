@@ -7,8 +7,7 @@ use Rattle.lg_keys.specs.Contents.{Contents}
 use Rattle.lg_keys.specs.declared.kept.Kept.{Kept}
 use Rattle.lg_types.specs.Known.{Marking, Referred, is_marking_of, is_referred_as, transaction_of}
 use Rattle.lg_types.specs.Moves.{Placed, pair_moves}
-use Rattle.lg_types.specs.declared.records.Entry.{Entry}
-use Rattle.lg_types.specs.declared.records.Event.TheVariants.{Logged}
+use Rattle.lg_types.specs.declared.records.Event.{Event}
 use Rattle.lg_types.specs.Parts.{Share, shares_of}
 use Rattle.lg_shard.specs.declared.accounts.AccountPart.{AccountPart}
 use Rattle.lg_shard.specs.declared.ledgers.LedgerPart.{LedgerPart}
@@ -61,10 +60,10 @@ pub record IsRoomFor (count : ℕ) (ahead : Holding) : Type 0 where
 abbrev pub AreRoomFor : ℕ → List Share → Type 0
 AreRoomFor count coming = (ledger : List ℕ) → IsRoomFor count (ledger_holding ledger coming)
 
--- the ledgers are ready for the entry to be applied
-pub record IsReadyFor (ledgers : NameTable LedgerPart) (s : ℕ) (ledger : List ℕ) (e : Entry) : Type 0 where
+-- the ledgers are ready for the event to be applied
+pub record IsReadyFor (ledgers : NameTable LedgerPart) (s : ℕ) (event : Event) : Type 0 where
   pub place : ℕ
   pub shares : List Share
   pub coming : List Share
-  pub tied : LedgersTied ledgers shares (shares_of s place (Logged ledger e) ++ coming)
-  pub follows : Follows shares (shares_of s place (Logged ledger e))
+  pub tied : LedgersTied ledgers shares (shares_of s place event ++ coming)
+  pub follows : Follows shares (shares_of s place event)

@@ -123,7 +123,7 @@ pub fn apply_entry<L: Ledger>(
 )
     requires there { IsSome (table.get ledgers.old ledger.now) }
     requires names { names ≡ names_in stripe ledger.now entry.now }
-    requires ready { IsReadyFor ledgers.old stripe ledger.now entry.now }
+    requires ready { IsReadyFor ledgers.old stripe (Logged ledger.now entry.now) }
     ensures tied { (place : ℕ) (shares coming : List Share) → LedgersTied ledgers.old shares (shares_of stripe place (Logged ledger.now entry.now) ++ coming) → LedgersTied ledgers.new (shares ++ shares_of stripe place (Logged ledger.now entry.now)) coming }
     ensures still { (q : List ℕ) → IsSome (table.get ledgers.old q) → IsSome (table.get ledgers.new q) }
 {

@@ -1,0 +1,139 @@
+//! What one stripe knows of the ledgers.
+
+ghost use Rattle.std.specs.Prelude.{◌≡◌, ◌+◌, ◌<◌, ◌↔◌, [], ◌∷◌, ◌++◌, drop, slice_get, Some, OnOk, OnErr, IfSome, IsNone};
+ghost use Rattle.lg_types.specs.Parts.{shares_of};
+ghost use Rattle.lg_shard.specs.Following.{Follows};
+ghost use Rattle.lg_shard.specs.Held.{all_shown, IsHeld};
+ghost use Rattle.lg_shard.specs.Shown.{account_moves, kept_under, used_under};
+ghost use Rattle.lg_shard.specs.State.{StripeState, placed, coming_shares};
+
+use crate::events::{apply_event, prepare_event, push_kept, release_events, take_names};
+use crate::kept::KeptEvent;
+use crate::ledgers::Ledgers;
+use crate::slots::Slots;
+use lg_containers::{Duplicate, NoMemory};
+use lg_runs::Steps;
+use lg_types::Event;
+use std::alloc::Global;
+use std::marker::{Brand, Model};
+use std::sync::ledger::{Blank, Ledger};
+
+/// The accounts, keys and references of one stripe.
+///
+/// An event is prepared first, which takes all the memory that it needs, and applied later, which takes none. A copy of each
+/// event is kept.
+#[derive(Drop)]
+pub struct Shard {
+    alloc: Global,
+    stripe: u8,
+    // The events that were applied, and then those that are prepared.
+    events: Vec<KeptEvent>,
+    applied: usize,
+    ledgers: Ledgers,
+}
+
+impl Model for Shard {
+    ghost use Rattle.lg_shard.specs.State.{StripeState};
+    ghost use Rattle.lg_shard.specs.Held.{IsHeld, state_of};
+
+    ghost Value = { StripeState };
+
+    ghost view = { λ x. state_of x.stripe x.events.items x.applied };
+
+    ghost invariant = { λ x. IsHeld x.stripe x.events.items x.applied x.ledgers };
+}
+
+impl Shard {
+    /// The shard of the stripe, without shares.
+    pub fn new(alloc: Global, stripe: u8) -> Shard
+        ensures { result ≡ record { stripe = stripe; shares = []; prepared = [] } }
+    {
+        Shard {
+            alloc,
+            stripe,
+            events: Vec::new(alloc),
+            applied: 0,
+            ledgers: Slots::new(alloc),
+        }
+    }
+
+    /// The number of the stripe.
+    pub fn stripe(&self) -> u8
+        ensures { result ≡ self.now.stripe }
+    {
+        let _ = &self.events;
+        self.stripe
+    }
+
+    /// Prepares the event, as the last of those that are prepared.
+    pub fn prepare(&mut self, event: &Event, place: u64) -> Result<(), NoMemory>
+        requires { Follows (coming_shares self.old) (shares_of self.old.stripe place event.now) }
+        ensures ok { OnOk result (self.new ≡ record { stripe = self.old.stripe; shares = self.old.shares; prepared = self.old.prepared ++ placed place event.now ∷ [] }) }
+        ensures err { OnErr result (self.new ≡ self.old) }
+    {
+        let copied = event.copy(self.alloc)?;
+        self.events.reserve(1)?;
+        let count = self.events.len() - self.applied + 1;
+        let names = prepare_event(self.alloc, &mut self.ledgers, self.stripe, event, count)?;
+        let kept = KeptEvent {
+            place,
+            event: copied,
+            names,
+        };
+        push_kept(&mut self.events, kept);
+        Ok(())
+    }
+
+    /// Gives up what is prepared.
+    pub fn forget(&mut self)
+        ensures { self.new ≡ record { stripe = self.old.stripe; shares = self.old.shares; prepared = [] } }
+    {
+        release_events(
+            &mut self.ledgers,
+            self.stripe,
+            &self.events[self.applied..],
+        );
+        self.events.truncate(self.applied);
+    }
+
+    /// Applies the first prepared event, which is the one given. Takes no memory.
+    pub fn apply(&mut self, event: &Event, place: u64)
+        requires { slice_get self.old.prepared 0 ≡ Some (placed place event.now) }
+        ensures { self.new ≡ record { stripe = self.old.stripe; shares = self.old.shares ++ shares_of self.old.stripe place event.now; prepared = drop 1 self.old.prepared } }
+    {
+        apply_next::<Brand>(
+            &mut self.ledgers,
+            &mut self.events,
+            self.applied,
+            self.stripe,
+            event,
+            place,
+            Blank::new(1),
+        );
+        self.applied += 1;
+    }
+}
+
+// Applies the event at the place behind those that were applied.
+fn apply_next<L: Ledger>(
+    ledgers: &mut Ledgers,
+    events: &mut Vec<KeptEvent>,
+    applied: usize,
+    stripe: u8,
+    event: &Event,
+    place: u64,
+    blank: Blank,
+)
+    requires name { blank.name ≡ L.name }
+    requires parts { blank.parts ≡ L.parts }
+    requires some { 0 < L.parts }
+    requires held { IsHeld stripe events.old.items applied ledgers.old }
+    requires first { slice_get (drop applied (all_shown events.old.items)) 0 ≡ Some (placed place event.now) }
+    ensures held { IsHeld stripe events.new.items (applied + 1) ledgers.new }
+    ensures shown { all_shown events.new.items ≡ all_shown events.old.items }
+{
+    let _ = place;
+    let names = take_names(events, applied);
+    let mut steps = Steps::<L>::new(blank);
+    apply_event(ledgers, stripe, event, names, &mut steps);
+}
