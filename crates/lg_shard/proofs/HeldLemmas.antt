@@ -14,6 +14,7 @@ use Rattle.lg_types.specs.Known.{marking, referred_by, transaction_references}
 use Rattle.lg_types.specs.Lists.{Each}
 use Rattle.lg_types.specs.Moves.{body_transaction}
 use Rattle.lg_types.specs.Parts.{Share, shares_of, has_key, has_reference, part_markings, part_references}
+use Rattle.lg_shard.specs.declared.accounts.AccountPart.{AccountPart}
 use Rattle.lg_shard.specs.declared.kept.KeptEvent.{KeptEvent}
 use Rattle.lg_shard.specs.declared.ledgers.LedgerPart.{LedgerPart}
 use Rattle.lg_shard.specs.declared.names.Names.{Names}
@@ -21,7 +22,9 @@ use Rattle.lg_shard.specs.Following.{Follows, AllFollow}
 use Rattle.lg_shard.specs.Held.{shown, all_shown, shares_done, shares_ahead, IsReadyEvent, IsReady, IsHeld, state_of}
 use Rattle.lg_shard.specs.Holdings.{Holding, no_holding, ledger_holding, own_holding, own_markings, own_references}
 use Rattle.lg_shard.specs.State.{PlacedEvent, StripeState, placed, placed_shares, all_shares}
-use Rattle.lg_shard.specs.Ties.{LedgersTied, IsRoomFor, AreRoomFor, IsReadyFor}
+use Rattle.lg_shard.specs.Accounts.{slot_in, items_of, items_at}
+use Rattle.lg_shard.specs.Shown.{account_moves, kept_under, used_under}
+use Rattle.lg_shard.specs.Ties.{accounts_of, keys_of, references_of, PartTied, LedgersTied, IsRoomFor, AreRoomFor, IsReadyFor}
 use Rattle.lg_shard.proofs.QuietLemmas.{holding-joined, holding-logged}
 use Rattle.lg_shard.proofs.LedgerLemmas.{nothing_tied}
 
@@ -269,3 +272,23 @@ state-first s events after applied p first same =
 pub held-new : (s : ℕ) (events : List KeptEvent) (ledgers : NameTable LedgerPart) → events ≡ [] → ledgers ≡ empty → IsHeld s events 0 ledgers
 held-new s events ledgers none h =
     subst (λ (ks : List KeptEvent). IsHeld s ks 0 ledgers) (sym none) (record { within = omega arith; tied = nothing_tied ledgers h; follows = tt; ready = tt })
+
+-- ---- what readers find
+
+module _ (s : ℕ) (events : List KeptEvent) (applied : ℕ) (ledgers : NameTable LedgerPart) (held : IsHeld s events applied ledgers) (v : StripeState) (is : state_of s events applied ≡ v) (ledger name : List ℕ) (en : name ≡ ledger) (o : Option LedgerPart) (found : o ≡ get ledgers name) where
+  part_here : PartTied o (ledger_holding ledger v.shares) (ledger_holding ledger (shares_ahead s applied (all_shown events)))
+  part_here =
+      subst (λ (p : Option LedgerPart). PartTied p (ledger_holding ledger v.shares) (ledger_holding ledger (shares_ahead s applied (all_shown events)))) (ap (get ledgers) (sym en) ∙ sym found)
+      (subst (λ (w : StripeState). PartTied (get ledgers ledger) (ledger_holding ledger w.shares) (ledger_holding ledger (shares_ahead s applied (all_shown events)))) is (held.tied ledger))
+
+  pub items-shown : (account asset : List ℕ) → items_at (accounts_of o) account asset ≡ account_moves v.shares ledger account asset
+  items-shown account asset = part_here.moves.items account asset
+
+  pub key-shown : (key : List ℕ) → get (keys_of o).table key ≡ kept_under v.shares ledger key
+  key-shown key = part_here.keys.known key
+
+  pub reference-shown : (reference : List ℕ) → get (references_of o).table reference ≡ used_under v.shares ledger reference
+  reference-shown reference = part_here.references.known reference
+
+  pub no-items : o ≡ None → (account asset : List ℕ) → account_moves v.shares ledger account asset ≡ []
+  no-items none account asset = sym (items-shown account asset) ∙ ap (λ p. items_at (accounts_of p) account asset) none ∙ ap (λ p. items_of (slot_in p asset)) (get-empty AccountPart account)

@@ -8,11 +8,15 @@ mod events;
 mod kept;
 mod ledgers;
 mod names;
+mod readers;
 mod reserved;
 mod shard;
+mod shards;
 mod slots;
 mod stripes;
 mod tables;
 
+pub use lg_types::Class;
 pub use shard::Shard;
+pub use shards::Shards;
 pub use stripes::stripe_of;

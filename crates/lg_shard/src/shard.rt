@@ -10,8 +10,11 @@ ghost use Rattle.lg_shard.specs.State.{StripeState, placed, coming_shares};
 use crate::events::{apply_event, prepare_event, push_kept, release_events, take_names};
 use crate::kept::KeptEvent;
 use crate::ledgers::Ledgers;
+use crate::readers::find_index;
 use crate::slots::Slots;
-use lg_containers::{Duplicate, NoMemory};
+use lg_containers::{Address, Asset, Duplicate, Key, LedgerName, NoMemory, Reference};
+use lg_keys::Kept;
+use lg_moves::MoveIndex;
 use lg_runs::Steps;
 use lg_types::Event;
 use std::alloc::Global;
@@ -111,6 +114,42 @@ impl Shard {
             Blank::new(1),
         );
         self.applied += 1;
+    }
+
+    /// The index of the moves of an account and an asset of the ledger. It may have room besides.
+    pub fn index(
+        &self,
+        ledger: &LedgerName,
+        account: &Address,
+        asset: &Asset,
+    ) -> Option<&MoveIndex>
+        ensures some { IfSome result (λ index. index.now.items ≡ account_moves self.now.shares ledger.now account.now asset.now) }
+        ensures none { IsNone result ↔ (account_moves self.now.shares ledger.now account.now asset.now ≡ []) }
+    {
+        match self.ledgers.find(ledger.bytes()) {
+            Some(part) => find_index(&part.accounts, account, asset),
+            None => None,
+        }
+    }
+
+    /// What is kept of the request that came with the key.
+    pub fn key(&self, ledger: &LedgerName, key: &Key) -> Option<Kept>
+        ensures { result ≡ kept_under self.now.shares ledger.now key.now }
+    {
+        match self.ledgers.find(ledger.bytes()) {
+            Some(part) => part.keys.find(key.bytes()),
+            None => None,
+        }
+    }
+
+    /// The id of the transaction that has the reference.
+    pub fn reference(&self, ledger: &LedgerName, reference: &Reference) -> Option<u64>
+        ensures { result ≡ used_under self.now.shares ledger.now reference.now }
+    {
+        match self.ledgers.find(ledger.bytes()) {
+            Some(part) => part.references.find(reference.bytes()),
+            None => None,
+        }
     }
 }
 

@@ -1,0 +1,10 @@
+use Rattle.std.proofs.Common.{ℕ, sym, ◌∙◌}
+use Rattle.lg_containers.specs.NameTable.{get-empty}
+use Rattle.lg_shard.proofs.HeldLemmas.{reference-shown}
+use Rattle.lg_shard.proofs.shard.Shard.reference.Goals as goal
+
+pub returns-in-None : goal.returns-in-None
+returns-in-None c =
+    let x = c.self.inside in
+    sym (get-empty ℕ c.args.reference.now)
+    ∙ reference-shown x.stripe x.events.items x.applied x.ledgers c.self.invariant _ c.self.view_is c.args.ledger.now c.bytes.result.now c.bytes.ensures.value _ c.in-None.ensures c.args.reference.now
