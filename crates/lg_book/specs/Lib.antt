@@ -1,0 +1,5 @@
+pub mod Booked
+pub mod FirstVolumes
+pub mod Following
+pub mod Index
+pub mod Reading

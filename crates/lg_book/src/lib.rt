@@ -1,0 +1,11 @@
+//! The book: the list of all events, and what of it is found by a look-up: ledgers, logs, transactions and first replies.
+#![tactic(auto)]
+
+mod ledger_index;
+mod ledgers;
+mod records;
+mod volumes;
+
+pub use lg_meta::MetaHistory;
+pub use lg_views::NoMemory;
+pub use volumes::FirstVolumes;
