@@ -1,3 +1,6 @@
 mod Lists
+mod Pairs
 mod Places
+mod IndexSteps
+mod RecordSteps
 mod Sound

@@ -1,5 +1,5 @@
 -- Lists: items at places, by ids, and changed at a place.
-use Rattle.std.proofs.Common.{◌≡◌, ℕ, zero, suc, ◌+◌, ◌<◌, ◌≤◌, Bool, true, false, cond, List, [], ◌∷◌, ◌++◌, map, length, take, get_or, set, slice_get, Option, Some, None, refl, sym, ap, subst, ◌∙◌, inl, inr, arith}
+use Rattle.std.proofs.Common.{◌≡◌, ℕ, zero, suc, ◌+◌, ◌<◌, ◌≤◌, Bool, true, false, cond, List, [], ◌∷◌, ◌++◌, map, length, take, get_or, set, slice_get, OnOk, Result, Ok, Err, Option, Some, None, refl, sym, ap, subst, ◌∙◌, inl, inr, arith}
 use Rattle.std.specs.Prelude.{◌⊎◌, nat_eq}
 use Rattle.std.specs.Option.{option_map}
 use Rattle.std.specs.List.{find}
@@ -9,6 +9,10 @@ use Rattle.lg_book.specs.Index.{by_id, changed_at}
 
 pub some_same : {A : Type 0} (x y : A) → ◌≡◌ {A = Option A} (Some x) (Some y) → x ≡ y
 some_same x y h = cc
+
+pub on_ok : {T E : Type 0} {P Q : Type 0} (r : Result T E) → (P → Q) → OnOk r P → OnOk r Q
+on_ok (Ok x) f h = f h
+on_ok (Err e) f h = tt
 
 pub not_some : {A : Type 0} (x : A) → ◌≡◌ {A = Option A} None (Some x) → ⊥
 not_some x h = cc
@@ -55,6 +59,11 @@ pub there_within : {A : Type 0} (k : ℕ) (xs : List A) → k < length xs → (x
 there_within k [] h = absurd (omega arith)
 there_within zero (x ∷ xs) h = (x, refl)
 there_within (suc k) (x ∷ xs) h = there_within k xs (omega arith)
+
+pub slice_get_within_length : {A : Type 0} (xs : List A) (k : ℕ) (x : A) → slice_get xs k ≡ Some x → k < length xs
+slice_get_within_length [] k x h = absurd (not_some x h)
+slice_get_within_length (y ∷ xs) zero x h = omega arith
+slice_get_within_length (y ∷ xs) (suc k) x h = let r : k < length xs = slice_get_within_length xs k x h in omega (arith, r)
 
 pub none_past : {A : Type 0} (k : ℕ) (xs : List A) → length xs ≤ k → slice_get xs k ≡ None
 none_past k [] h = refl

@@ -25,7 +25,7 @@ module _ {A B : Type 0} (f : A → List B) where
   length-places k [] = refl
   length-places k (x ∷ xs) =
       length-append (map (λ _. k) (f x)) (places_of f (suc k) xs)
-      ∙ ap (λ n. n + length (places_of f (suc k) xs)) (length-map (λ _. k) (f x))
+      ∙ ap (λ n. n + length (places_of f (suc k) xs)) (length-map (f x) (λ _. k))
       ∙ ap (λ n. length (f x) + n) (length-places (suc k) xs)
       ∙ sym (length-append (f x) (flat_map f xs))
 

@@ -7,7 +7,7 @@ use Rattle.std.specs.Str.{bytes_eq}
 use Rattle.std.proofs.lemmas.Int.{ints}
 use Rattle.std.proofs.lemmas.List.{append-nil, length-append, map-append}
 use Rattle.std.proofs.lemmas.List.Elements.{filter-append}
-use Rattle.std.proofs.lemmas.List.Folds.{find-append}
+use Rattle.std.proofs.lemmas.List.Folds.{find-append, list_any-append}
 use Rattle.std.proofs.lemmas.Grind.{flat_map-append}
 use Rattle.std.proofs.lemmas.Bool.{eqb-true, eq-eqb}
 use Rattle.std.proofs.lemmas.Slice.Eq.{bytes_eq-Decides}
@@ -129,7 +129,7 @@ pub no_some : {A : Type 0} (o : Option A) → is_some o ≡ false → o ≡ None
 no_some None h = refl
 no_some (Some x) h = absurd (let f : true ≡ false = h in cc)
 
-or_left : (a b : Bool) → (a || b) ≡ false → a ≡ false
+pub or_left : (a b : Bool) → (a || b) ≡ false → a ≡ false
 or_left true b h = absurd (let f : true ≡ false = h in cc)
 or_left false b h = refl
 
@@ -138,7 +138,7 @@ or_right true b h = absurd (let f : true ≡ false = h in cc)
 or_right false b h = h
 
 -- the first of two that aren't there isn't there
-first_none : {A : Type 0} (a b : Option A) → option_or a b ≡ None → a ≡ None
+pub first_none : {A : Type 0} (a b : Option A) → option_or a b ≡ None → a ≡ None
 first_none None b h = refl
 first_none (Some x) b h = h
 
@@ -152,7 +152,8 @@ next_id g t h = eqb-true t.id (length (transactions g) + 1) (not_false _ h)
 
 own_found : (date : ℤ) (t : Transaction) → find (has_id t.id) (dated date (Some t)) ≡ None → ⊥
 own_found date t h =
-    none_is _ (ap (λ b. is_none (cond b (Some (record { date = date; transaction = t })) None)) (eq-eqb t.id t.id refl)) h
+    let d : Dated = record { date = date; transaction = t } in
+    none_is _ (ap (λ b. is_none {T = Dated} (cond b (Some d) None)) (eq-eqb t.id t.id refl)) h
 
 target_found : (g : List Entry) (target : Target) (j : ℕ) → is_missing g target ≡ false → target_id target ≡ Some j → find_transaction g j ≡ None → ⊥
 target_found g (Account name) j h e none = not_some j e
@@ -187,7 +188,7 @@ body_undone g date (NewTransaction t accounts) id h none = refl
 body_undone g date (SetMetadata target metadata) id h none = refl
 body_undone g date (Reverted j t) id h none = by_test (nat_eq j id) refl
   where
-    by_test : (b : Bool) → nat_eq j id ≡ b → cond b (Some (record { reverted = j; by = t.id; date = date })) None ≡ None
+    by_test : (b : Bool) → nat_eq j id ≡ b → cond {A = Option Undoing} b (Some (record { reverted = j; by = t.id; date = date })) None ≡ None
     by_test true e = absurd (none_is (find_transaction g j) (or_left _ _ h) (ap (find_transaction g) (eqb-true j id e) ∙ none))
     by_test false e = refl
 body_undone g date (DeleteMetadata target name) id h none = refl
@@ -291,7 +292,14 @@ sound-take all h ledger (suc k) le =
 
 -- a ledger that isn't there has no entry
 none_more : (ledger : List ℕ) (events : List Event) (event : Event) → MayFollow events event → (is_there events ledger ≡ false → log events ledger ≡ []) → is_there (events ++ event ∷ []) ledger ≡ false → log events ledger ++ logged ledger event ≡ []
-none_more ledger events event f before none = ?
+none_more ledger events (Made info) f before none = ap (λ l. l ++ []) (before (or_left _ _ (sym (list_any-append (is_made_as ledger) events (Made info ∷ [])) ∙ none)))
+none_more ledger events (Logged name e) f before none = by_test (bytes_eq name ledger) refl
+  where
+    gone : is_there events ledger ≡ false
+    gone = or_left _ _ (sym (list_any-append (is_made_as ledger) events (Logged name e ∷ [])) ∙ none)
+    by_test : (b : Bool) → bytes_eq name ledger ≡ b → log events ledger ++ cond b (e ∷ []) [] ≡ []
+    by_test true is = absurd (let there : is_there events ledger ≡ true = subst (λ n. is_there events n ≡ true) (bytes_same name ledger is) f.0 in let h : true ≡ false = sym there ∙ gone in cc)
+    by_test false is = ap (λ l. l ++ []) (before gone)
 
 pub absent-take : (all : List Event) → IsGrown all → (ledger : List ℕ) (k : ℕ) → k ≤ length all → is_there (take k all) ledger ≡ false → log (take k all) ledger ≡ []
 absent-take all h ledger zero le none = refl

@@ -267,3 +267,27 @@ entry_by_record all (Some r) = entry_there (slice_get all r.place)
 abbrev pub made_by_record : List Event → Option TransactionRecord → Option Entry
 made_by_record all None = None
 made_by_record all (Some r) = entry_there (slice_get all r.place)
+
+abbrev pub info_if : Bool → Option Event → Option LedgerInfo
+info_if true event = info_there event
+info_if false event = None
+
+-- the transaction that an entry makes, with the entry's date
+abbrev pub dated_by_entry : Option Entry → Option Dated
+dated_by_entry None = None
+dated_by_entry (Some e) = slice_get (entry_transactions e) 0
+
+abbrev pub transaction_by_entry : Option Entry → Option Transaction
+transaction_by_entry None = None
+transaction_by_entry (Some e) = body_transaction e.body
+
+abbrev pub date_by_entry : Option Entry → Option ℤ
+date_by_entry None = None
+date_by_entry (Some e) = Some e.date
+
+abbrev pub reverted_by_record : Option TransactionRecord → Option ℕ
+reverted_by_record None = None
+reverted_by_record (Some r) = r.reverted_by
+
+abbrev pub history_of : TransactionRecord → History
+history_of r = r.history

@@ -3,3 +3,4 @@ pub mod FirstVolumes
 pub mod Following
 pub mod Index
 pub mod Reading
+pub mod Writing

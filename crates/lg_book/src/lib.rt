@@ -1,9 +1,12 @@
 //! The book: the list of all events, and what of it is found by a look-up: ledgers, logs, transactions and first replies.
 #![tactic(auto)]
 
+mod changing;
 mod ledger_index;
 mod ledgers;
+mod readings;
 mod records;
+mod replies;
 mod volumes;
 
 pub use lg_meta::MetaHistory;
