@@ -1,6 +1,12 @@
 mod Lists
 mod Pairs
 mod Places
+mod FoundRecords
+mod BookReads
+mod Copies
+mod BookSteps
+mod ForgetSteps
 mod IndexSteps
 mod RecordSteps
 mod Sound
+mod Views

@@ -1,9 +1,9 @@
 -- Ledgers found and changed by their names.
-use Rattle.std.proofs.Common.{◌≡◌, ℕ, Bool, true, false, cond, List, [], ◌∷◌, ◌++◌, length, get_or, set, insert, remove, IsTrue, T, Ordering, Less, Equal, Greater, Option, Some, None, refl, sym, ap, ap₂, subst, ◌∙◌, arith}
+use Rattle.std.proofs.Common.{◌≡◌, ℕ, Bool, true, false, not, cond, List, [], ◌∷◌, ◌++◌, length, get_or, set, insert, remove, IsTrue, T, Ordering, Less, Equal, Greater, Option, Some, None, refl, sym, ap, ap₂, subst, ◌∙◌, arith}
 use Rattle.std.specs.Prelude.{IfSome}
 use Rattle.std.specs.Option.{option_map}
 use Rattle.std.specs.Ordering.{eq_by_cmp, is_eq}
-use Rattle.std.specs.Cmp.{tied_itself}
+use Rattle.std.specs.Cmp.{tied_itself, alike_right}
 use Rattle.std.specs.Cmp.Lexicographic.{nat_list_cmp_total}
 use Rattle.std.specs.FinMap.Entries.{find, put, where_key, is_sorted-put, is_sorted-where_key, find-put, find-where_key}
 use Rattle.std.proofs.lemmas.List.{set-get_or}
@@ -70,3 +70,21 @@ find-here name x pairs = find-put name_order nat_list_cmp_total name name x pair
 
 pub find-other : (name other : List ℕ) (x : LedgerView) (pairs : List (List ℕ × LedgerView)) → (other ≡ name → ⊥) → find name_order other (put name_order name x pairs) ≡ find name_order other pairs
 find-other name other x pairs h = find-put name_order nat_list_cmp_total other name x pairs ∙ ap (λ b. cond b (Some x) (find name_order other pairs)) (apart other name h)
+
+pub order-taken : (name : List ℕ) (pairs : List (List ℕ × LedgerView)) → IsTrue (is_in_order pairs) → IsTrue (is_in_order (where_key name_order (other_than name) pairs))
+order-taken name pairs h = ordered (is_in_order (where_key name_order (other_than name) pairs)) (is_sorted-where_key name_order (other_than name) pairs (tested (is_in_order pairs) h))
+
+turned : {A : Type 0} (b : Bool) (x y : A) → cond (not b) x y ≡ cond b y x
+turned true x y = refl
+turned false x y = refl
+
+pub find-taken : (name other : List ℕ) (pairs : List (List ℕ × LedgerView)) → find name_order other (where_key name_order (other_than name) pairs) ≡ cond (eq_by_cmp name_order name other) None (find name_order other pairs)
+find-taken name other pairs =
+    find-where_key name_order (other_than name) other (λ x tied. ap (λ r. not (is_eq r)) (sym (alike_right nat_list_cmp_total other x name tied))) pairs
+    ∙ turned (eq_by_cmp name_order name other) _ _
+
+pub find-taken_here : (name : List ℕ) (pairs : List (List ℕ × LedgerView)) → find name_order name (where_key name_order (other_than name) pairs) ≡ None
+find-taken_here name pairs = find-taken name name pairs ∙ ap (λ r. cond (is_eq r) None (find name_order name pairs)) (tied_itself nat_list_cmp_total name)
+
+pub find-taken_other : (name other : List ℕ) (pairs : List (List ℕ × LedgerView)) → (other ≡ name → ⊥) → find name_order other (where_key name_order (other_than name) pairs) ≡ find name_order other pairs
+find-taken_other name other pairs h = find-taken name other pairs ∙ ap (λ b. cond b None (find name_order other pairs)) (apart name other (λ same. h (sym same)))

@@ -49,11 +49,11 @@ undone-append id g h = ap (find (undoes id)) (flat_map-append entry_undoings g h
 changes_of-append : (cs ds : List DatedChange) → changes_of (cs ++ ds) ≡ changes_of cs ++ changes_of ds
 changes_of-append cs ds = map-append (λ (c : DatedChange). c.change) cs ds
 
-nil_left : {A : Type 0} (xs ys : List A) → xs ++ ys ≡ [] → xs ≡ []
+pub nil_left : {A : Type 0} (xs ys : List A) → xs ++ ys ≡ [] → xs ≡ []
 nil_left [] ys h = refl
 nil_left (x ∷ xs) ys h = absurd (let f : x ∷ (xs ++ ys) ≡ [] = h in cc)
 
-nil_right : {A : Type 0} (xs ys : List A) → xs ++ ys ≡ [] → ys ≡ []
+pub nil_right : {A : Type 0} (xs ys : List A) → xs ++ ys ≡ [] → ys ≡ []
 nil_right [] ys h = h
 nil_right (x ∷ xs) ys h = absurd (let f : x ∷ (xs ++ ys) ≡ [] = h in cc)
 

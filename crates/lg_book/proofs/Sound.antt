@@ -133,7 +133,7 @@ pub or_left : (a b : Bool) → (a || b) ≡ false → a ≡ false
 or_left true b h = absurd (let f : true ≡ false = h in cc)
 or_left false b h = refl
 
-or_right : (a b : Bool) → (a || b) ≡ false → b ≡ false
+pub or_right : (a b : Bool) → (a || b) ≡ false → b ≡ false
 or_right true b h = absurd (let f : true ≡ false = h in cc)
 or_right false b h = h
 

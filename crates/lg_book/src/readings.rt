@@ -205,13 +205,13 @@ pub(crate) fn reply_in(
 fn reply_by_record(
     alloc: Global,
     events: &[Event],
-    record: &EntryRecord,
+    kept: &EntryRecord,
 ) -> Result<Reply, NoMemory>
-    requires { IsSome (entry_there (slice_get events.now record.now.place)) }
-    ensures { IfOk result (λ reply. IfSome (entry_there (slice_get events.now record.now.place)) (λ e. (g : List Entry) → record.now.volumes ≡ entry_volumes g e → reply ≡ plain (first_reply g e))) }
+    requires { IsSome (entry_there (slice_get events.now kept.now.place)) }
+    ensures { IfOk result (λ reply. IfSome (entry_there (slice_get events.now kept.now.place)) (λ e. (g : List Entry) → kept.now.volumes ≡ entry_volumes g e → reply ≡ plain (first_reply g e))) }
 {
-    match entry_at(events, record.place) {
+    match entry_at(events, kept.place) {
         None => unreachable!(),
-        Some(entry) => reply_of(alloc, entry, &record.volumes),
+        Some(entry) => reply_of(alloc, entry, &kept.volumes),
     }
 }
