@@ -5,6 +5,7 @@ mod FoundRecords
 mod BookReads
 mod Copies
 mod BookSteps
+mod EntryIds
 mod ForgetSteps
 mod IndexSteps
 mod RecordSteps

@@ -1,4 +1,5 @@
 pub mod Booked
+pub mod EntryLaws
 pub mod FirstVolumes
 pub mod Following
 pub mod Index

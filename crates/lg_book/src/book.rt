@@ -23,6 +23,7 @@ use crate::volumes::FirstVolumes;
 use crate::changing::{add_event, forget_events, prepare_event};
 use lg_containers::{Duplicate, LedgerName};
 use lg_meta::MetaHistory;
+use lg_turns::Journal;
 use lg_types::{Entry, Event, LedgerInfo, NoMemory, Target, Transaction, bring};
 use lg_views::Reply;
 use std::alloc::Global;
@@ -241,5 +242,17 @@ impl Book {
         add_event(&mut self.ledgers, &event);
         self.added += 1;
         drop(event);
+    }
+}
+
+impl Journal for Book {
+    ghost use Rattle.lg_book.specs.Booked.{is_clean};
+
+    ghost events = { λ b. b.events };
+
+    ghost clean = { λ b. is_clean b.prepared };
+
+    fn len(&self) -> u64 {
+        self.added as u64
     }
 }

@@ -3,6 +3,7 @@
 
 mod book;
 mod changing;
+pub mod laws;
 mod ledger_index;
 mod ledgers;
 mod opening;
