@@ -1,6 +1,6 @@
 -- Postings that are booked one after the other, and taken back.
-use Rattle.std.proofs.Common.{◌≡◌, ℕ, ◌+◌, ◌^◌, ◌<◌, ◌≤◌, Bool, true, false, ◌&&◌, cond, List, [], ◌∷◌, ◌++◌, length, take, get_or, Option, Some, refl, sym, ◌∙◌, ap, ap₂, subst, arith}
-use Rattle.std.specs.Prelude.{All, slice_get}
+use Rattle.std.proofs.Common.{◌≡◌, ℕ, ◌+◌, ◌^◌, ◌<◌, ◌≤◌, Bool, true, false, ◌&&◌, cond, List, [], ◌++◌, take, Some, refl, sym, ◌∙◌, ap, ap₂, subst, arith}
+use Rattle.std.specs.Prelude.{slice_get}
 use Rattle.std.specs.List.{flat_map}
 use Rattle.std.specs.Str.{bytes_eq}
 use Rattle.std.proofs.lemmas.Slice.Eq.{bytes_eq-Decides}
@@ -12,7 +12,7 @@ use Rattle.lg_types.specs.Trial.{tried_moves}
 use Rattle.lg_types.proofs.MoveSums.{same_volumes, volumes-append}
 use Rattle.lg_sheet.specs.Working.{Working, worked, SameVolumes}
 use Rattle.lg_sheet.specs.Back.{HasBooked}
-use Rattle.lg_sheet.specs.Trials.{OfBoth, present, HaveTotals, Booked, StaysWithin, HasRoom}
+use Rattle.lg_sheet.specs.Trials.{present, HaveTotals, Booked, StaysWithin, HasRoom}
 use Rattle.lg_sheet.proofs.OrderLemmas.{got, got_below}
 use Rattle.lg_sheet.proofs.LineLemmas.{is_pair, own_volumes, tried_total, there}
 use Rattle.lg_sheet.proofs.TrialLemmas.{next_moves}

@@ -5,7 +5,7 @@ use Rattle.std.proofs.lemmas.Slice.Eq.{bytes_eq-Decides}
 use Rattle.lg_base.specs.declared.amounts.Volumes.{Volumes}
 use Rattle.lg_base.specs.Volumes.{sum_of}
 use Rattle.lg_types.specs.declared.records.Posting.{Posting}
-use Rattle.lg_types.specs.Moves.{Placed, what_of, out_move, in_move, total}
+use Rattle.lg_types.specs.Moves.{what_of, out_move, in_move, total}
 use Rattle.lg_types.specs.Tally.{tally}
 use Rattle.lg_types.specs.Trial.{tried_moves}
 use Rattle.std.specs.Prelude.{pos}

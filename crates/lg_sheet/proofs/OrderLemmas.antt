@@ -1,9 +1,9 @@
 -- Postings in the order of a trial.
-use Rattle.std.proofs.Common.{◌≡◌, ℕ, ◌+◌, ◌-◌, ◌<◌, List, [], ◌∷◌, map, length, get_or, reverse, Option, Some, None, refl, sym, ◌∙◌, ap, subst, arith, zero, suc}
+use Rattle.std.proofs.Common.{◌≡◌, ℕ, ◌-◌, ◌<◌, List, [], ◌∷◌, length, get_or, reverse, Option, Some, None, refl, sym, ◌∙◌, ap, subst, arith, zero, suc}
 use Rattle.std.specs.Prelude.{All, slice_get}
 use Rattle.std.proofs.lemmas.List.{length-map, length-reverse, get_or-reverse, get_or-map}
 use Rattle.lg_types.specs.declared.records.Posting.{Posting}
-use Rattle.lg_types.specs.Trial.{exchanged, reverting}
+use Rattle.lg_types.specs.Trial.{exchanged}
 use Rattle.lg_sheet.specs.declared.lines.Order.{Order}
 use Rattle.lg_sheet.specs.declared.lines.Order.TheVariants.{Given, Reverting}
 use Rattle.lg_sheet.specs.Lines.{ordered}

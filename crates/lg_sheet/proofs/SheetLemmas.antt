@@ -8,8 +8,8 @@ use Rattle.lg_types.specs.Moves.{Placed, total}
 use Rattle.lg_types.specs.Trial.{tried_moves}
 use Rattle.lg_types.proofs.MoveSums.{volumes-append}
 use Rattle.std.specs.Prelude.{Bool}
-use Rattle.lg_sheet.specs.Working.{Working, worked, SameVolumes}
-use Rattle.lg_sheet.specs.Trials.{OfBoth, present, MayTry, HaveTotals, Accepted, Booked}
+use Rattle.lg_sheet.specs.Working.{Working, SameVolumes}
+use Rattle.lg_sheet.specs.Trials.{present, MayTry, HaveTotals, Accepted, Booked}
 
 same_present : (totals : List ℕ → List ℕ → Volumes) (old new : Working) (b y : List ℕ) → SameVolumes old new → present totals old b y ≡ present totals new b y
 same_present totals old new b y same = ap (sum_of (totals b y)) (sym (same.each b y))

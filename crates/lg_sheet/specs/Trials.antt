@@ -1,5 +1,5 @@
 -- The trial of postings over lent totals and what a sheet accepted before.
-use Rattle.std.specs.Prelude.{◌≡◌, ℕ, ◌<◌, ◌+◌, ◌^◌, Bool, IsTrue, if◌then◌else◌, List, ◌++◌, All, take, slice_get, Option, Some, None, Result, Ok, Err, IsSomeAnd, ⊤}
+use Rattle.std.specs.Prelude.{◌≡◌, ℕ, ◌<◌, ◌+◌, ◌^◌, Bool, IsTrue, if◌then◌else◌, List, All, slice_get, Option, Some, None, Result, Ok, Err, IsSomeAnd, ⊤}
 use Rattle.std.specs.List.{flat_map}
 use Rattle.lg_base.specs.declared.amounts.Volumes.{Volumes}
 use Rattle.lg_base.specs.Volumes.{IsWithinLimit, sum_of}

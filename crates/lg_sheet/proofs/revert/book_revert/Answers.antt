@@ -6,7 +6,7 @@ use Rattle.lg_sheet.specs.declared.lines.Order.TheVariants.{Reverting}
 use Rattle.lg_sheet.specs.Back.{HasBooked}
 use Rattle.lg_sheet.specs.Trials.{IsToldStop}
 use Rattle.lg_sheet.proofs.OrderLemmas.{length-ordered}
-use Rattle.lg_sheet.proofs.BookLemmas.{has_booked, totals_now, back_again}
+use Rattle.lg_sheet.proofs.BookLemmas.{has_booked, totals_now}
 use Rattle.lg_sheet.proofs.TrialLemmas.{told_limit, forced_revert, whole_revert}
 use Rattle.lg_sheet.proofs.revert.book_revert.Goals as goal
 

@@ -3,7 +3,7 @@ use Rattle.std.specs.Prelude.{int_lt, pos}
 use Rattle.lg_base.specs.Volumes.{IsWithinLimit, balance_of}
 use Rattle.lg_types.specs.declared.refusals.Refusal.TheVariants.{Below}
 use Rattle.lg_types.specs.Moves.{total}
-use Rattle.lg_types.specs.Trial.{is_world, reverting, below_in}
+use Rattle.lg_types.specs.Trial.{is_world, reverting}
 use Rattle.lg_sheet.specs.declared.lines.Order.TheVariants.{Reverting}
 use Rattle.lg_sheet.specs.Lines.{posting_of}
 use Rattle.lg_sheet.specs.Trials.{present, IsToldStop}

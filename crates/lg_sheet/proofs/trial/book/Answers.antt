@@ -1,11 +1,11 @@
-use Rattle.std.proofs.Common.{◌≡◌, ◌∙◌, ◌++◌, IsTrue, Some, None, take, sym, ap, subst}
+use Rattle.std.proofs.Common.{◌≡◌, ◌∙◌, ◌++◌, IsTrue, take, sym, ap, subst}
 use Rattle.std.specs.List.{flat_map}
 use Rattle.lg_base.specs.Volumes.{IsWithinLimit}
 use Rattle.lg_types.specs.Moves.{total}
 use Rattle.lg_types.specs.Trial.{tried_moves, trial_from}
 use Rattle.lg_sheet.specs.Lines.{posting_of, ordered}
 use Rattle.lg_sheet.specs.Working.{IsOpen}
-use Rattle.lg_sheet.specs.Trials.{present, line_refusal, tried, IsToldStop}
+use Rattle.lg_sheet.specs.Trials.{present, line_refusal, IsToldStop}
 use Rattle.lg_sheet.proofs.OrderLemmas.{both_at}
 use Rattle.lg_sheet.proofs.WorkingLemmas.{stays_twice}
 use Rattle.lg_sheet.proofs.BookLemmas.{booked_next, total_now, within_next, within_twice, has_booked}

@@ -3,7 +3,7 @@ use Rattle.lg_sheet.specs.Lines.{posting_of, ordered}
 use Rattle.lg_sheet.specs.Working.{IsOpen}
 use Rattle.lg_sheet.proofs.OrderLemmas.{both_at}
 use Rattle.lg_sheet.proofs.WorkingLemmas.{stays_twice}
-use Rattle.lg_sheet.proofs.BookLemmas.{IsBack, left_output, left_input, back_next, back_all}
+use Rattle.lg_sheet.proofs.BookLemmas.{IsBack, left_output, left_input, back_next}
 use Rattle.lg_sheet.proofs.trial.take_back.Goals as goal
 
 pub take_line-requires-clause-source : goal.take_line-requires-clause-source

@@ -1,4 +1,4 @@
-use Rattle.std.proofs.Common.{◌≡◌, ◌∙◌, ap₂, cond}
+use Rattle.std.proofs.Common.{◌∙◌, ap₂, cond}
 use Rattle.lg_sheet.specs.Lines.{posting_of}
 use Rattle.lg_sheet.specs.Working.{worked}
 use Rattle.lg_sheet.proofs.LineLemmas.{added, is_pair, more_out, more_in}

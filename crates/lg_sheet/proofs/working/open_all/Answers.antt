@@ -1,7 +1,4 @@
-use Rattle.std.proofs.Common.{◌≡◌, ℕ, ◌<◌, arith}
-use Rattle.lg_types.specs.declared.records.Posting.{Posting}
-use Rattle.lg_sheet.specs.Working.{IsOpen, SameVolumes}
-use Rattle.lg_sheet.specs.Trials.{OfBoth}
+use Rattle.std.proofs.Common.{arith}
 use Rattle.lg_sheet.proofs.WorkingLemmas.{same_twice, stays_twice, open_next}
 use Rattle.lg_sheet.proofs.working.open_all.Goals as goal
 

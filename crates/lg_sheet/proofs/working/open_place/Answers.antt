@@ -1,6 +1,6 @@
-use Rattle.std.proofs.Common.{◌≡◌, IsSome, Some, sym, subst}
-use Rattle.lg_containers.specs.NameTable.{get, insert}
-use Rattle.lg_sheet.proofs.WorkingLemmas.{placed, opened_is, place_opened, place_same, place_stays, place_open}
+use Rattle.std.proofs.Common.{IsSome, sym, subst}
+use Rattle.lg_containers.specs.NameTable.{get}
+use Rattle.lg_sheet.proofs.WorkingLemmas.{opened_is, place_opened, place_same, place_stays, place_open}
 use Rattle.lg_sheet.proofs.working.open_place.Goals as goal
 
 pub value_mut-requires : goal.value_mut-requires

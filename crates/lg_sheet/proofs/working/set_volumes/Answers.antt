@@ -1,7 +1,5 @@
-use Rattle.std.proofs.Common.{◌≡◌, ◌∙◌, ap, sym, subst}
-use Rattle.lg_containers.specs.NameTable.{get, insert}
-use Rattle.lg_sheet.specs.Working.{worked, StaysOpen, IsOpen}
-use Rattle.lg_sheet.proofs.WorkingLemmas.{set_there, stays_there, some_more, asset_there}
+use Rattle.lg_containers.specs.NameTable.{insert}
+use Rattle.lg_sheet.proofs.WorkingLemmas.{set_there, stays_there, some_more}
 use Rattle.lg_sheet.proofs.working.set_volumes.Goals as goal
 
 pub returns-clause-set : goal.returns-clause-set

@@ -1,4 +1,4 @@
-use Rattle.std.proofs.Common.{◌≡◌, ◌∙◌, ap, refl}
+use Rattle.std.proofs.Common.{◌∙◌, ap}
 use Rattle.lg_base.specs.declared.amounts.Volumes.{Volumes}
 use Rattle.lg_containers.specs.NameTable.{NameTable, get, get-empty}
 use Rattle.lg_sheet.specs.Working.{asset_volumes}

@@ -1,6 +1,4 @@
-use Rattle.std.proofs.Common.{◌≡◌, ◌++◌, sym, subst}
-use Rattle.lg_types.specs.Trial.{trial_from}
-use Rattle.lg_sheet.specs.Trials.{IsTold, Accepted, HaveTotals, present}
+use Rattle.std.proofs.Common.{◌++◌}
 use Rattle.lg_sheet.proofs.SheetLemmas.{have_both}
 use Rattle.lg_sheet.proofs.sheet.Sheet.try_postings.Goals as goal
 

@@ -1,5 +1,4 @@
-use Rattle.std.proofs.Common.{◌≡◌, ◌++◌, sym, subst}
-use Rattle.lg_sheet.specs.Trials.{IsTold, Accepted, HaveTotals, present}
+use Rattle.std.proofs.Common.{◌++◌}
 use Rattle.lg_sheet.proofs.SheetLemmas.{have_both}
 use Rattle.lg_sheet.proofs.sheet.Sheet.try_revert.Goals as goal
 
