@@ -3,13 +3,12 @@ use Rattle.std.proofs.Common.{◌≡◌, ℕ, ◌+◌, ◌<◌, ◌≤◌, ℤ, 
 use Rattle.std.specs.List.{flat_map, filter}
 use Rattle.std.proofs.lemmas.List.{append-nil, take_more, drop_more, flat_map_more}
 use Rattle.std.proofs.lemmas.List.Sums.{sum_by-cons, sum_by_more}
-use Rattle.lg_moves.specs.declared.moves.Move.{Move}
+use Rattle.lg_types.specs.declared.moves.Move.{Move}
 use Rattle.lg_types.specs.declared.records.Posting.{Posting}
 use Rattle.lg_types.specs.Moves.{Placed, what_of, is_of, out_move, in_move, posting_moves, pair_moves}
 use Rattle.lg_types.specs.Parts.{has_move}
 use Rattle.lg_shard.specs.Accounts.{one_if, only_if}
 use Rattle.lg_shard.specs.Holdings.{MovesFollow}
-use Rattle.lg_shard.specs.Shown.{index_move}
 use Rattle.lg_shard.specs.Sides.{is_side, side_count, side_moves, posting_count, posting_items}
 
 -- the first of moves that follow, and the others after them
@@ -37,12 +36,12 @@ module _ (s : ℕ) (ledger : List ℕ) (id : ℕ) (inserted effective : ℤ) (a 
       ∙ sym (sum_by-cons (posting_count s ledger a b) p ps)
 
   shown : List Placed → List Move
-  shown ms = map index_move (map what_of (filter (is_of a b) ms))
+  shown ms = map what_of (filter (is_of a b) ms)
 
-  one_move : (own pair : Bool) (m : Placed) (ms : List Placed) → is_of a b m ≡ pair → shown (cond own (m ∷ ms) ms) ≡ only_if (own && pair) (index_move m.what) ++ shown ms
+  one_move : (own pair : Bool) (m : Placed) (ms : List Placed) → is_of a b m ≡ pair → shown (cond own (m ∷ ms) ms) ≡ only_if (own && pair) m.what ++ shown ms
   unfolding shown
-  one_move true true m ms e = ap (λ t. map index_move (map what_of (cond t (m ∷ filter (is_of a b) ms) (filter (is_of a b) ms)))) e
-  one_move true false m ms e = ap (λ t. map index_move (map what_of (cond t (m ∷ filter (is_of a b) ms) (filter (is_of a b) ms)))) e
+  one_move true true m ms e = ap (λ t. map what_of (cond t (m ∷ filter (is_of a b) ms) (filter (is_of a b) ms))) e
+  one_move true false m ms e = ap (λ t. map what_of (cond t (m ∷ filter (is_of a b) ms) (filter (is_of a b) ms))) e
   one_move false true m ms e = refl
   one_move false false m ms e = refl
 
@@ -53,11 +52,11 @@ module _ (s : ℕ) (ledger : List ℕ) (id : ℕ) (inserted effective : ℤ) (a 
       let rest : List Placed = filter (has_move s ledger) (flat_map (posting_moves id inserted effective) ps) in
       let out = out_move id inserted effective p in let into = in_move id inserted effective p in
       one_move (has_move s ledger out) (is_of a b out) out (cond (has_move s ledger into) (into ∷ rest) rest) refl
-      ∙ ap (λ l. only_if (has_move s ledger out && is_of a b out) (index_move out.what) ++ l) (one_move (has_move s ledger into) (is_of a b into) into rest refl ∙ ap (λ l. only_if (has_move s ledger into && is_of a b into) (index_move into.what) ++ l) (own-items_shown ps))
-      ∙ sym (append_assoc (only_if (has_move s ledger out && is_of a b out) (index_move out.what)) (only_if (has_move s ledger into && is_of a b into) (index_move into.what)) (flat_map (posting_items s ledger id inserted effective a b) ps))
+      ∙ ap (λ l. only_if (has_move s ledger out && is_of a b out) out.what ++ l) (one_move (has_move s ledger into) (is_of a b into) into rest refl ∙ ap (λ l. only_if (has_move s ledger into && is_of a b into) into.what ++ l) (own-items_shown ps))
+      ∙ sym (append_assoc (only_if (has_move s ledger out && is_of a b out) out.what) (only_if (has_move s ledger into && is_of a b into) into.what) (flat_map (posting_items s ledger id inserted effective a b) ps))
 
   -- the moves of the postings on the stripe's account and the asset
-  pub own-items : (ps : List Posting) → map index_move (pair_moves (filter (has_move s ledger) (flat_map (posting_moves id inserted effective) ps)) a b) ≡ flat_map (posting_items s ledger id inserted effective a b) ps
+  pub own-items : (ps : List Posting) → pair_moves (filter (has_move s ledger) (flat_map (posting_moves id inserted effective) ps)) a b ≡ flat_map (posting_items s ledger id inserted effective a b) ps
   unfolding shown
   own-items ps = own-items_shown ps
 

@@ -9,10 +9,9 @@ use Rattle.lg_types.specs.Moves.{Placed, pair_moves, body_transaction, transacti
 use Rattle.lg_types.specs.Parts.{has_move}
 use Rattle.lg_types.proofs.MoveSums.{pair_moves-append}
 use Rattle.lg_shard.specs.declared.accounts.AccountPart.{AccountPart}
-use Rattle.lg_moves.specs.declared.moves.Move.{Move}
+use Rattle.lg_types.specs.declared.moves.Move.{Move}
 use Rattle.lg_shard.specs.Accounts.{items_at, waiting_at, SameHoldings, SameRoom, SameHistories}
 use Rattle.lg_shard.specs.Holdings.{MovesFollow}
-use Rattle.lg_shard.specs.Shown.{index_move}
 use Rattle.lg_shard.specs.Sides.{posting_count, posting_items}
 use Rattle.lg_shard.specs.Holdings.{own_moves}
 use Rattle.lg_shard.specs.Ties.{MovesTied}
@@ -20,12 +19,12 @@ use Rattle.lg_shard.proofs.MoveLists.{own-items, length-items}
 
 module _ (s : ℕ) (ledger : List ℕ) (e : Entry) (t : Transaction) (there : body_transaction e.body ≡ Some t) where
   -- the moves of the transaction on an account and an asset
-  pub own-moves : (a b : List ℕ) → map index_move (pair_moves (own_moves s ledger e) a b) ≡ flat_map (posting_items s ledger t.id e.date t.timestamp a b) t.postings
-  own-moves a b = ap (λ o. map index_move (pair_moves (filter (has_move s ledger) (transaction_moves e.date o)) a b)) there ∙ own-items s ledger t.id e.date t.timestamp a b t.postings
+  pub own-moves : (a b : List ℕ) → pair_moves (own_moves s ledger e) a b ≡ flat_map (posting_items s ledger t.id e.date t.timestamp a b) t.postings
+  own-moves a b = ap (λ o. pair_moves (filter (has_move s ledger) (transaction_moves e.date o)) a b) there ∙ own-items s ledger t.id e.date t.timestamp a b t.postings
 
   pub count-moves : (a b : List ℕ) → length (pair_moves (own_moves s ledger e) a b) ≡ sum_by (posting_count s ledger a b) t.postings
   count-moves a b =
-      sym (length-map (pair_moves (own_moves s ledger e) a b) index_move) ∙ ap length (own-moves a b) ∙ length-items s ledger t.id e.date t.timestamp a b t.postings
+      ap length (own-moves a b) ∙ length-items s ledger t.id e.date t.timestamp a b t.postings
 
 -- an entry without a transaction has no moves
 pub no-moves : (s : ℕ) (ledger : List ℕ) (e : Entry) → body_transaction e.body ≡ None → own_moves s ledger e ≡ []
@@ -54,12 +53,12 @@ module _ (old new : NameTable AccountPart) where
   moves-forgotten same done ahead tied = record { items = λ a b. same.items a b ∙ tied.items a b; room = λ a b. omega arith }
 
   -- prepared moves that are applied
-  pub moves-applied : (own : List Placed) → ((a b : List ℕ) → items_at new a b ≡ items_at old a b ++ map index_move (pair_moves own a b)) → ((a b : List ℕ) → waiting_at new a b + length (pair_moves own a b) ≡ waiting_at old a b)
+  pub moves-applied : (own : List Placed) → ((a b : List ℕ) → items_at new a b ≡ items_at old a b ++ pair_moves own a b) → ((a b : List ℕ) → waiting_at new a b + length (pair_moves own a b) ≡ waiting_at old a b)
       → (done ahead : List Placed) → MovesTied old done (own ++ ahead) → MovesTied new (done ++ own) ahead
   moves-applied own items room done ahead tied = record {
     items = λ a b.
       items a b
-      ∙ ap (λ l. l ++ map index_move (pair_moves own a b)) (tied.items a b)
-      ∙ sym (ap (map index_move) (pair_moves-append done own a b) ∙ map-append index_move (pair_moves done a b) (pair_moves own a b));
+      ∙ ap (λ l. l ++ pair_moves own a b) (tied.items a b)
+      ∙ sym (pair_moves-append done own a b);
     room = λ a b. let h = tied.room a b in let e = room a b in let n = count-append own ahead a b in omega arith;
   }

@@ -7,7 +7,7 @@ use Rattle.std.specs.Str.{bytes_eq}
 use Rattle.lg_containers.specs.NameTable.{NameTable, get}
 use Rattle.lg_meta.specs.History.{History}
 use Rattle.lg_types.specs.declared.changes.MetaChange.{MetaChange}
-use Rattle.lg_moves.specs.declared.moves.Move.{Move}
+use Rattle.lg_types.specs.declared.moves.Move.{Move}
 use Rattle.lg_shard.specs.declared.accounts.AccountPart.{AccountPart}
 use Rattle.lg_shard.specs.declared.reserved.Reserved.{Reserved}
 

@@ -3,14 +3,14 @@ use Rattle.std.specs.Prelude.{◌≡◌, ℕ, List, [], ◌∷◌, ◌++◌, map
 use Rattle.std.specs.Option.{option_map}
 use Rattle.std.specs.List.{filter, find}
 use Rattle.lg_base.specs.Volumes.{IsWithinLimit}
-use Rattle.lg_moves.specs.declared.moves.Move.{Move}
-use Rattle.lg_moves.specs.Moves.{ComesNext, total_of}
+use Rattle.lg_types.specs.declared.moves.Move.{Move}
+use Rattle.lg_moves.specs.Moves.{ComesNext}
 use Rattle.lg_types.specs.declared.records.Entry.{Entry}
 use Rattle.lg_types.specs.Known.{Marking, Referred, marking, entry_keys, entry_references, is_marking_of, is_referred_as, transaction_of}
 use Rattle.lg_types.specs.Lists.{Each}
 use Rattle.lg_types.specs.Moves.{Placed, pair_moves, entry_moves}
+use Rattle.lg_types.specs.Tally.{total_of}
 use Rattle.lg_types.specs.Parts.{Share, has_move, has_key, has_reference, part_moves, part_markings, part_references}
-use Rattle.lg_shard.specs.Shown.{index_move, kept_of}
 
 -- moves, keys and references of one ledger
 pub record Holding : Type 0 where
@@ -41,10 +41,6 @@ own_references s ledger e = filter (has_reference s ledger) (entry_references e)
 abbrev pub own_holding : ℕ → List ℕ → Entry → Holding
 own_holding s ledger e = record { moves = own_moves s ledger e; markings = own_markings s ledger e; references = own_references s ledger e }
 
--- the moves of an account and an asset, as their index keeps them
-abbrev pub moves_on : List Placed → List ℕ → List ℕ → List Move
-moves_on ms account asset = map index_move (pair_moves ms account asset)
-
 -- one after the other, each move comes next and keeps the totals within the limit
 abbrev pub MovesFollow : List Move → List Move → Type 0
 MovesFollow before [] = Unit {0}
@@ -58,6 +54,6 @@ IsNewReference references r = find (is_referred_as r.reference) references ≡ N
 
 -- each move, key and reference meets what its index or its table asks of the next one
 pub record HoldingFollows (held new : Holding) : Type 0 where
-  pub moves : (account asset : List ℕ) → MovesFollow (moves_on held.moves account asset) (moves_on new.moves account asset)
+  pub moves : (account asset : List ℕ) → MovesFollow (pair_moves held.moves account asset) (pair_moves new.moves account asset)
   pub keys : Each (IsNewKey held.markings) new.markings
   pub references : Each (IsNewReference held.references) new.references

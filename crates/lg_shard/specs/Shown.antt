@@ -8,7 +8,6 @@ use Rattle.lg_containers.specs.NameOrder.{name_order}
 use Rattle.lg_keys.specs.declared.kept.Kept.{Kept}
 use Rattle.lg_meta.specs.declared.change.DatedChange.{DatedChange}
 use Rattle.lg_meta.specs.MetaFold.{dated_change}
-use Rattle.lg_moves.specs.declared.moves.Move.{Move as IndexMove}
 use Rattle.lg_types.specs.declared.moves.Move.{Move}
 use Rattle.lg_types.specs.declared.records.Target.TheVariants.{Account}
 use Rattle.lg_types.specs.Changes.{Change, is_about}
@@ -17,13 +16,9 @@ use Rattle.lg_types.specs.Moves.{Placed, pair_moves}
 use Rattle.lg_types.specs.PartLaws.{is_account}
 use Rattle.lg_types.specs.Parts.{Share, part_moves, part_changes, part_accounts, part_markings, part_references}
 
--- a move as an index keeps it: the same fields
-abbrev pub index_move : Move → IndexMove
-index_move m = record { transaction = m.transaction; inserted = m.inserted; effective = m.effective; incoming = m.incoming; amount = m.amount }
-
 -- the moves of an account and an asset of the ledger
-abbrev pub account_moves : List Share → List ℕ → List ℕ → List ℕ → List IndexMove
-account_moves shares ledger account asset = map index_move (pair_moves (part_moves ledger shares) account asset)
+abbrev pub account_moves : List Share → List ℕ → List ℕ → List ℕ → List Move
+account_moves shares ledger account asset = pair_moves (part_moves ledger shares) account asset
 
 -- the changes of the metadata of an account of the ledger
 abbrev pub account_changes : List Share → List ℕ → List ℕ → List DatedChange

@@ -2,7 +2,7 @@
 --     side_count, side_moves           1 and the move where the side is of the stripe, the account and the asset; else 0 and none
 --     posting_count, posting_items     the same of both sides: the output of the source, then the input of the destination
 use Rattle.std.specs.Prelude.{ℕ, ◌+◌, ℤ, Bool, true, false, ◌&&◌, List, ◌++◌}
-use Rattle.lg_moves.specs.declared.moves.Move.{Move}
+use Rattle.lg_types.specs.declared.moves.Move.{Move}
 use Rattle.lg_types.specs.declared.records.Posting.{Posting}
 use Rattle.lg_types.specs.Parts.{has_account}
 use Rattle.lg_shard.specs.Accounts.{is_pair, one_if, only_if}

@@ -13,12 +13,12 @@ use Rattle.lg_shard.specs.declared.accounts.AccountPart.{AccountPart}
 use Rattle.lg_shard.specs.declared.ledgers.LedgerPart.{LedgerPart}
 use Rattle.lg_shard.specs.Accounts.{items_at, waiting_at}
 use Rattle.lg_shard.specs.Following.{Follows}
-use Rattle.lg_shard.specs.Holdings.{Holding, ledger_holding, moves_on}
+use Rattle.lg_shard.specs.Holdings.{Holding, ledger_holding}
 use Rattle.lg_shard.specs.Shown.{kept_of}
 
 -- each index holds the moves that were applied, and has room for those that are prepared
 pub record MovesTied (accounts : NameTable AccountPart) (done ahead : List Placed) : Type 0 where
-  pub items : (account asset : List ℕ) → items_at accounts account asset ≡ moves_on done account asset
+  pub items : (account asset : List ℕ) → items_at accounts account asset ≡ pair_moves done account asset
   pub room : (account asset : List ℕ) → length (pair_moves ahead account asset) ≤ waiting_at accounts account asset
 
 pub record KeysTied (keys : Contents Kept) (done ahead : List Marking) : Type 0 where

@@ -4,7 +4,6 @@ ghost use Rattle.std.specs.Prelude.{◌≡◌, ℕ, ◌≤◌, List, [], ◌++�
 ghost use Rattle.lg_types.specs.Moves.{Placed, pair_moves};
 ghost use Rattle.lg_shard.specs.Accounts.{items_at, waiting_at, SameHistories};
 ghost use Rattle.lg_shard.specs.Holdings.{MovesFollow};
-ghost use Rattle.lg_shard.specs.Shown.{index_move};
 ghost use Rattle.lg_shard.specs.Holdings.{own_moves};
 ghost use Rattle.lg_shard.specs.Ties.{MovesTied};
 
@@ -63,7 +62,7 @@ pub fn apply_moves<L: Ledger>(
     steps: &mut Steps<L>,
 )
     requires room { (a b : List ℕ) → length (pair_moves (own_moves stripe ledger.now entry.now) a b) ≤ waiting_at accounts.old a b }
-    requires follows { (a b : List ℕ) → MovesFollow (items_at accounts.old a b) (map index_move (pair_moves (own_moves stripe ledger.now entry.now) a b)) }
+    requires follows { (a b : List ℕ) → MovesFollow (items_at accounts.old a b) (pair_moves (own_moves stripe ledger.now entry.now) a b) }
     ensures tied { (done ahead : List Placed) → MovesTied accounts.old done (own_moves stripe ledger.now entry.now ++ ahead) → MovesTied accounts.new (done ++ own_moves stripe ledger.now entry.now) ahead }
     ensures histories { SameHistories accounts.old accounts.new }
 {

@@ -10,9 +10,8 @@ ghost use Rattle.lg_shard.specs.Sides.{side_count, side_moves, posting_count, po
 use crate::accounts::{Accounts, apply_pair, has_pair, open_pair, release_pair, reserve_pair};
 use crate::stripes::stripe_of;
 use lg_containers::{Address, Asset, NoMemory};
-use lg_moves::Move;
 use lg_runs::Steps;
-use lg_types::{Class, LedgerName, Posting, Transaction};
+use lg_types::{Class, LedgerName, Move, Posting, Transaction};
 use std::alloc::Global;
 use std::sync::ledger::Ledger;
 
@@ -107,7 +106,7 @@ fn release_posting(accounts: &mut Accounts, stripe: u8, ledger: &LedgerName, pos
     release_side(accounts, stripe, ledger, &posting.destination, &posting.asset);
 }
 
-/// What the moves of a posting have beside its amount: their transaction, and the date of its entry.
+// The move of one side of a posting: its output, or its input where the amount comes in.
 fn move_of(transaction: &Transaction, inserted: &i64, posting: &Posting, incoming: bool) -> Move
     ensures { result ≡ record { transaction = transaction.now.id; inserted = inserted.now; effective = transaction.now.timestamp; incoming = incoming; amount = posting.now.amount } }
 {

@@ -8,6 +8,7 @@ mod events;
 mod kept;
 mod ledgers;
 mod names;
+mod part;
 mod readers;
 mod reserved;
 mod shard;

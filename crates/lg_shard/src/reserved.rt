@@ -2,7 +2,8 @@
 
 ghost use Rattle.std.specs.Prelude.{◌≡◌, ◌+◌, ◌-◌, ◌<◌, ◌≤◌, [], ◌∷◌, ◌++◌, OnOk, OnErr};
 ghost use Rattle.lg_base.specs.Volumes.{IsWithinLimit};
-ghost use Rattle.lg_moves.specs.Moves.{ComesNext, total_of};
+ghost use Rattle.lg_moves.specs.Moves.{ComesNext};
+ghost use Rattle.lg_types.specs.Tally.{total_of};
 
 use lg_containers::NoMemory;
 use lg_moves::{Move, MoveIndex};

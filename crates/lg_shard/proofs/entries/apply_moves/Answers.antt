@@ -1,6 +1,6 @@
 use Rattle.std.proofs.Common.{◌≡◌, ◌+◌, ◌++◌, List, length, sum_by, ap, sym, subst, ◌∙◌, arith}
 use Rattle.std.specs.List.{flat_map}
-use Rattle.lg_moves.specs.declared.moves.Move.{Move}
+use Rattle.lg_types.specs.declared.moves.Move.{Move}
 use Rattle.lg_types.specs.Moves.{pair_moves}
 use Rattle.lg_shard.specs.Accounts.{items_at, waiting_at}
 use Rattle.lg_shard.specs.Holdings.{MovesFollow}
