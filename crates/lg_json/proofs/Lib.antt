@@ -19,3 +19,4 @@ pub mod Each
 pub mod Tokens
 pub mod Steps
 pub mod Values
+pub mod OpenFrames

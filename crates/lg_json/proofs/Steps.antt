@@ -8,42 +8,18 @@ use Rattle.lg_json.specs.Grammar.{IsDigit}
 use Rattle.lg_json.specs.Reading.{Frame, Mode, Role, State, at, is_blank, is_digit, complete, close_empty, open_frame, begin, begin_name, follow_on, with_name, step, finish, and_then, reads, reading}
 use Rattle.lg_json.specs.Reading.Frame.{in_list, in_object, named}
 use Rattle.lg_json.specs.Reading.Mode.{before_value, before_first, before_first_name, before_name, before_colon, in_word, in_text, after_item, ended}
-use Rattle.lg_json.specs.View.{view, frame_view, frames_view, next_view, Gives, Fails, comma_mode, placed}
+use Rattle.lg_json.specs.View.{standing, frames_view, next_view, Gives, Fails, placed}
 use Rattle.lg_json.specs.Tokens.{Passes, Skips, TextEnds, Moves, IsNumberByte, IsOtherByte, begins}
 use Rattle.lg_json.specs.declared.json.Json.{Json}
 use Rattle.lg_json.specs.declared.json.JsonFault.{JsonFault}
 use Rattle.lg_json.specs.declared.json.JsonFault.TheVariants.{Syntax, NotWhole, TooWide, TooDeep, Repeated, NoMemory}
 use Rattle.lg_json.specs.declared.state.Frame.{Frame as OpenFrame}
 use Rattle.lg_json.specs.declared.state.Next.{Next}
-use Rattle.lg_json.specs.declared.state.State.{State as Reader}
 use Rattle.lg_json.specs.declared.state.TextMode.TheVariants.{Character}
 use Rattle.lg_containers.specs.declared.utf8.Utf8State.TheVariants.{Boundary}
 use Rattle.lg_json.proofs.Reaches.{reads_at, value_begins, first_begins, value_passes, first_passes, first_name_passes, name_passes, colon_passes, item_passes, end_passes}
 use Rattle.lg_json.proofs.Lists.{digit_byte}
 use Rattle.lg_json.proofs.Tokens.{stop_byte, no_byte, begins_byte, begins_stop}
-
--- the frame on top, and a comma
-pub comma_none : (place : ℕ) (fs : List OpenFrame) → None ≡ slice_get fs 0 → follow_on place (frames_view fs) 44 ≡ Err (Syntax place)
-comma_none place [] e = refl
-comma_none place (f ∷ fs) e = absurd cc
-
-pub comma_ok : (place : ℕ) (fs : List OpenFrame) (f : OpenFrame) (n : Next) → Some f ≡ slice_get fs 0 → Some (next_view n) ≡ comma_mode (frame_view f) → follow_on place (frames_view fs) 44 ≡ Ok (at (frames_view fs) (next_view n))
-comma_ok place [] f n e g = absurd cc
-comma_ok place (h ∷ fs) f n e g = let same : f ≡ h = cc in go (frame_view h) (g ∙ ap (λ k. comma_mode (frame_view k)) same)
-  where
-    go : (k : Frame) → Some (next_view n) ≡ comma_mode k → follow_on place (k ∷ frames_view fs) 44 ≡ Ok (at (k ∷ frames_view fs) (next_view n))
-    go (in_list ts) q = let r : next_view n ≡ before_value = cc in ap (λ m. Ok (at (in_list ts ∷ frames_view fs) m)) (sym r)
-    go (in_object ms) q = let r : next_view n ≡ before_name = cc in ap (λ m. Ok (at (in_object ms ∷ frames_view fs) m)) (sym r)
-    go (named ms name) q = absurd cc
-
-pub comma_bad : (place : ℕ) (fs : List OpenFrame) (f : OpenFrame) → Some f ≡ slice_get fs 0 → None ≡ comma_mode (frame_view f) → follow_on place (frames_view fs) 44 ≡ Err (Syntax place)
-comma_bad place [] f e g = absurd cc
-comma_bad place (h ∷ fs) f e g = let same : f ≡ h = cc in go (frame_view h) (g ∙ ap (λ k. comma_mode (frame_view k)) same)
-  where
-    go : (k : Frame) → None ≡ comma_mode k → follow_on place (k ∷ frames_view fs) 44 ≡ Err (Syntax place)
-    go (in_list ts) q = absurd cc
-    go (in_object ms) q = absurd cc
-    go (named ms name) q = refl
 
 -- faults along equations
 pub fails_as : {A : Type 0} (f : JsonFault) (x y : Result A JsonFault) → x ≡ y → Fails f y → Fails f x
@@ -58,9 +34,9 @@ fails_then (Repeated p) r k h = ap (λ q. and_then q k) h
 fails_then NoMemory r k h = tt
 
 -- a step whose result is r, after which the reading goes on at `next`
-pub moves_placed : (bytes : List ℕ) (place next : ℕ) (before : Result Tree JsonFault) (r : Result State JsonFault) (outcome : Result Reader JsonFault) → place < next → next ≤ length bytes → before ≡ and_then r (λ s. reads next s (drop next bytes)) → Gives view outcome r → Moves bytes place before (placed outcome next)
-moves_placed bytes place next before r (Ok s) above within e g = (above, within, e ∙ ap (λ q. and_then q (λ t. reads next t (drop next bytes))) g)
-moves_placed bytes place next before r (Err f) above within e g = fails_as f before _ e (fails_then f r (λ s. reads next s (drop next bytes)) g)
+pub moves_placed : (bytes : List ℕ) (place next : ℕ) (before : Result Tree JsonFault) (r : Result State JsonFault) (fs : List OpenFrame) (outcome : Result Next JsonFault) → place < next → next ≤ length bytes → before ≡ and_then r (λ s. reads next s (drop next bytes)) → Gives (standing fs) outcome r → Moves bytes place before fs (placed outcome next)
+moves_placed bytes place next before r fs (Ok n) above within e g = (above, within, e ∙ ap (λ q. and_then q (λ t. reads next t (drop next bytes))) g)
+moves_placed bytes place next before r fs (Err f) above within e g = fails_as f before _ e (fails_then f r (λ s. reads next s (drop next bytes)) g)
 
 -- a byte whose step is known
 pub byte_then : (bytes : List ℕ) (place : ℕ) (fs : List Frame) (m : Mode) (r : Result State JsonFault) → place < length bytes → step place fs m (get_or bytes place 0) ≡ r → reads place (at fs m) (drop place bytes) ≡ and_then r (λ s. reads (place + 1) s (drop (place + 1) bytes))
@@ -181,49 +157,53 @@ state_passes fs Next.Colon = colon_passes fs
 state_passes fs Next.Comma = item_passes fs
 state_passes fs (Next.End value) = end_passes fs (tree value)
 
-pub skipped : (bytes : List ℕ) (place next : ℕ) (s : Reader) → Skips bytes place next → reads place (view s) (drop place bytes) ≡ reads next (view s) (drop next bytes)
-skipped bytes place next s k = k.same (frames_view s.frames) (next_view s.next) (state_passes (frames_view s.frames) s.next)
-
--- a step after blanks is one before them
-pub moves_after : (bytes : List ℕ) (place next : ℕ) (s : Reader) (r : Result (Reader × ℕ) JsonFault) → Skips bytes place next → Moves bytes next (reads next (view s) (drop next bytes)) r → Moves bytes place (reads place (view s) (drop place bytes)) r
-moves_after bytes place next s (Ok p) k m = let above : place ≤ next = k.above in let more : next < p.1 = m.0 in (omega arith, m.1, skipped bytes place next s k ∙ m.2)
-moves_after bytes place next s (Err f) k m = fails_as f _ _ (skipped bytes place next s k) m
+pub skipped : (bytes : List ℕ) (place next : ℕ) (fs : List OpenFrame) (n : Next) → Skips bytes place next → reads place (standing fs n) (drop place bytes) ≡ reads next (standing fs n) (drop next bytes)
+skipped bytes place next fs n k = k.same (frames_view fs) (next_view n) (state_passes (frames_view fs) n)
 
 -- the end of the bytes
-pub end_value : (bytes : List ℕ) (place : ℕ) (s : Reader) → length bytes ≤ place → reads place (view s) (drop place bytes) ≡ finish place (frames_view s.frames) (next_view s.next)
-end_value bytes place s h = no_byte bytes place (view s) h
+pub end_value : (bytes : List ℕ) (place : ℕ) (fs : List OpenFrame) (n : Next) → length bytes ≤ place → reads place (standing fs n) (drop place bytes) ≡ finish place (frames_view fs) (next_view n)
+end_value bytes place fs n h = no_byte bytes place (standing fs n) h
 
 -- a loop of steps
-pub record OnTheWay (bytes : List ℕ) (place : ℕ) (s : Reader) : Type 0 where
+pub record OnTheWay (bytes : List ℕ) (place : ℕ) (fs : List OpenFrame) (n : Next) : Type 0 where
   pub within : place ≤ length bytes
-  pub same : reads place (view s) (drop place bytes) ≡ reading bytes
+  pub same : reads place (standing fs n) (drop place bytes) ≡ reading bytes
 
-pub starts : (bytes : List ℕ) (s : Reader) → view s ≡ at [] before_value → OnTheWay bytes 0 s
+pub blanks_pass : (bytes : List ℕ) (place next : ℕ) (fs : List OpenFrame) (n : Next) → OnTheWay bytes place fs n → Skips bytes place next → OnTheWay bytes next fs n
+blanks_pass bytes place next fs n w k = record { within = k.within; same = sym (skipped bytes place next fs n k) ∙ w.same }
+
+starts : (bytes : List ℕ) (fs : List OpenFrame) (n : Next) → standing fs n ≡ at [] before_value → OnTheWay bytes 0 fs n
 unfolding reading
-starts bytes s e = record { within = omega arith; same = ap (λ w. reads 0 w bytes) e }
+starts bytes fs n e = record { within = omega arith; same = ap (λ w. reads 0 w bytes) e }
 
-pub goes_on : (bytes : List ℕ) (place : ℕ) (s : Reader) (p : Reader × ℕ) → OnTheWay bytes place s → Moves bytes place (reads place (view s) (drop place bytes)) (Ok p) → OnTheWay bytes p.1 p.0
-goes_on bytes place s p w m = record { within = m.1; same = sym m.2 ∙ w.same }
+pub starts_after : (bytes : List ℕ) (place : ℕ) (fs : List OpenFrame) (n : Next) → standing fs n ≡ at [] before_value → Skips bytes 0 place → OnTheWay bytes place fs n
+starts_after bytes place fs n e k = blanks_pass bytes 0 place fs n (starts bytes fs n e) k
 
-pub ends : (bytes : List ℕ) (place : ℕ) (s : Reader) (f : JsonFault) → OnTheWay bytes place s → Fails f (reads place (view s) (drop place bytes)) → Fails f (reading bytes)
-ends bytes place s f w h = fails_as f _ _ (sym w.same) h
-
-pub is_done : (bytes : List ℕ) (place : ℕ) (s : Reader) (result : Result Json JsonFault) → OnTheWay bytes place s → length bytes ≤ place → Gives tree result (finish (length bytes) (frames_view s.frames) (next_view s.next)) → Gives tree result (reading bytes)
-is_done bytes place s result w h g =
+pub is_done : (bytes : List ℕ) (place : ℕ) (fs : List OpenFrame) (n : Next) (result : Result Json JsonFault) → OnTheWay bytes place fs n → length bytes ≤ place → Gives tree result (finish (length bytes) (frames_view fs) (next_view n)) → Gives tree result (reading bytes)
+is_done bytes place fs n result w h g =
     let within : place ≤ length bytes = w.within in
     let same : length bytes ≡ place = omega arith in
-    subst (Gives tree result) (ap (λ i. finish i (frames_view s.frames) (next_view s.next)) same ∙ sym (end_value bytes place s h) ∙ w.same) g
+    subst (Gives tree result) (ap (λ i. finish i (frames_view fs) (next_view n)) same ∙ sym (end_value bytes place fs n h) ∙ w.same) g
+
+goes_on : (bytes : List ℕ) (place : ℕ) (fs gs : List OpenFrame) (n : Next) (p : Next × ℕ) → OnTheWay bytes place fs n → Moves bytes place (reads place (standing fs n) (drop place bytes)) gs (Ok p) → OnTheWay bytes p.1 gs p.0
+goes_on bytes place fs gs n p w m = record { within = m.1; same = sym m.2 ∙ w.same }
+
+pub goes_after : (bytes : List ℕ) (place next : ℕ) (fs gs : List OpenFrame) (n : Next) (p : Next × ℕ) → OnTheWay bytes place fs n → Moves bytes place (reads place (standing fs n) (drop place bytes)) gs (Ok p) → Skips bytes p.1 next → OnTheWay bytes next gs p.0
+goes_after bytes place next fs gs n p w m k = blanks_pass bytes p.1 next gs p.0 (goes_on bytes place fs gs n p w m) k
+
+pub ends : (bytes : List ℕ) (place : ℕ) (fs : List OpenFrame) (n : Next) (f : JsonFault) → OnTheWay bytes place fs n → Fails f (reads place (standing fs n) (drop place bytes)) → Fails f (reading bytes)
+ends bytes place fs n f w h = fails_as f _ _ (sym w.same) h
 
 -- the same reading, told otherwise
-pub moves_as : (bytes : List ℕ) (place : ℕ) (x y : Result Tree JsonFault) (r : Result (Reader × ℕ) JsonFault) → x ≡ y → Moves bytes place y r → Moves bytes place x r
-moves_as bytes place x y r e m = subst (λ z. Moves bytes place z r) (sym e) m
+pub moves_as : (bytes : List ℕ) (place : ℕ) (x y : Result Tree JsonFault) (gs : List OpenFrame) (r : Result (Next × ℕ) JsonFault) → x ≡ y → Moves bytes place y gs r → Moves bytes place x gs r
+moves_as bytes place x y gs r e m = subst (λ z. Moves bytes place z gs r) (sym e) m
 
 pub no_value_begins : (bytes : List ℕ) (place : ℕ) (fs : List Frame) → place < length bytes → IsOtherByte (get_or bytes place 0) → (IsNumberByte (get_or bytes place 0) → ⊥) → begins place fs (drop place bytes) ≡ Err (Syntax place)
 no_value_begins bytes place fs h o n = begins_stop bytes place fs (Syntax place) h (begins_other place fs (get_or bytes place 0) o.0 o.1 o.2 o.3 o.4 o.5 (λ e. n (inl e)) (λ d. n (inr d)))
 
 -- the state's parts
-pub value_at : (bytes : List ℕ) (place : ℕ) (s : Reader) (r : Result (Reader × ℕ) JsonFault) → place < length bytes → is_blank (get_or bytes place 0) ≡ false → s.next ≡ Next.Value → Moves bytes place (begins place (frames_view s.frames) (drop place bytes)) r → Moves bytes place (reads place (view s) (drop place bytes)) r
-value_at bytes place s r h e n m = moves_as bytes place _ _ r (ap (λ k. reads place (at (frames_view s.frames) (next_view k)) (drop place bytes)) n ∙ on_value bytes place (frames_view s.frames) h e) m
+pub value_at : (bytes : List ℕ) (place : ℕ) (fs : List OpenFrame) (n : Next) (gs : List OpenFrame) (r : Result (Next × ℕ) JsonFault) → place < length bytes → is_blank (get_or bytes place 0) ≡ false → n ≡ Next.Value → Moves bytes place (begins place (frames_view fs) (drop place bytes)) gs r → Moves bytes place (reads place (standing fs n) (drop place bytes)) gs r
+value_at bytes place fs n gs r h e same m = moves_as bytes place _ _ gs r (ap (λ k. reads place (standing fs k) (drop place bytes)) same ∙ on_value bytes place (frames_view fs) h e) m
 
-pub end_at : (bytes : List ℕ) (place : ℕ) (s : Reader) (v : Json) → place < length bytes → is_blank (get_or bytes place 0) ≡ false → s.next ≡ Next.End v → reads place (view s) (drop place bytes) ≡ Err (Syntax place)
-end_at bytes place s v h e n = ap (λ k. reads place (at (frames_view s.frames) (next_view k)) (drop place bytes)) n ∙ stop_byte bytes place (frames_view s.frames) (ended (tree v)) (Syntax place) h (end_other place (frames_view s.frames) (tree v) _ e)
+pub end_at : (bytes : List ℕ) (place : ℕ) (fs : List OpenFrame) (n : Next) (v : Json) → place < length bytes → is_blank (get_or bytes place 0) ≡ false → n ≡ Next.End v → reads place (standing fs n) (drop place bytes) ≡ Err (Syntax place)
+end_at bytes place fs n v h e same = ap (λ k. reads place (standing fs k) (drop place bytes)) same ∙ stop_byte bytes place (frames_view fs) (ended (tree v)) (Syntax place) h (end_other place (frames_view fs) (tree v) _ e)

@@ -6,10 +6,11 @@ use Rattle.lg_json.specs.Reading.{Frame, Mode, Role, State, at, is_blank, is_dig
 use Rattle.lg_json.specs.Reading as machine
 use Rattle.lg_json.specs.Reading.Mode.{in_word, after_zero, in_digits, in_text}
 use Rattle.lg_json.specs.Grammar.{signed}
-use Rattle.lg_json.specs.View.{Fails, view}
+use Rattle.lg_json.specs.View.{Fails, standing}
 use Rattle.lg_json.specs.declared.json.JsonFault.{JsonFault}
 use Rattle.lg_json.specs.declared.json.JsonFault.TheVariants.{Syntax, NotWhole, TooWide}
-use Rattle.lg_json.specs.declared.state.State.{State as Reader}
+use Rattle.lg_json.specs.declared.state.Frame.{Frame as OpenFrame}
+use Rattle.lg_json.specs.declared.state.Next.{Next}
 use Rattle.lg_json.specs.declared.state.TextMode.TheVariants.{Character}
 use Rattle.lg_containers.specs.declared.utf8.Utf8State.TheVariants.{Boundary}
 
@@ -28,10 +29,10 @@ pub record Skips (bytes : List ℕ) (place next : ℕ) : Type 0 where
   pub within : next ≤ length bytes
   pub same : (fs : List Frame) (m : Mode) → Passes fs m → reads place (at fs m) (drop place bytes) ≡ reads next (at fs m) (drop next bytes)
 
--- what is read from the place on is read from the new place on in the new state
-abbrev pub Moves : List ℕ → ℕ → Result Tree JsonFault → Result (Reader × ℕ) JsonFault → Type 0
-Moves bytes place before (Ok p) = (place < p.1) × (p.1 ≤ length bytes) × (before ≡ reads p.1 (view p.0) (drop p.1 bytes))
-Moves bytes place before (Err f) = Fails f before
+-- what is read from the place on is read from the new place on, where fs is open
+abbrev pub Moves : List ℕ → ℕ → Result Tree JsonFault → List OpenFrame → Result (Next × ℕ) JsonFault → Type 0
+Moves bytes place before fs (Ok p) = (place < p.1) × (p.1 ≤ length bytes) × (before ≡ reads p.1 (standing fs p.0) (drop p.1 bytes))
+Moves bytes place before fs (Err f) = Fails f before
 
 -- a number from its first byte on: its value and the place after it
 abbrev pub IsNumber : List ℕ → ℕ → Result (ℤ × ℕ) JsonFault → Type 0

@@ -1,22 +1,27 @@
 -- What the reader's state and answers stand for.
-use Rattle.std.specs.Prelude.{◌≡◌, ℕ, List, Option, Some, None, map, Result, Ok, Err}
+use Rattle.std.specs.Prelude.{◌≡◌, ℕ, Bool, true, false, List, ◌∷◌, Option, Some, None, map, reverse, Result, Ok, Err}
 use Rattle.lg_json.specs.Tree.{Entry, tree, entry}
+use Rattle.lg_json.specs.declared.json.Json.{Json}
 use Rattle.lg_json.specs.declared.json.Member.{Member}
 use Rattle.lg_json.specs.Reading as machine
 use Rattle.lg_json.specs.declared.json.JsonFault.{JsonFault}
 use Rattle.lg_json.specs.declared.json.JsonFault.TheVariants.{Syntax, NotWhole, TooWide, TooDeep, Repeated, NoMemory}
 use Rattle.lg_json.specs.declared.state.Frame.{Frame}
 use Rattle.lg_json.specs.declared.state.Next.{Next}
-use Rattle.lg_json.specs.declared.state.State.{State}
 use Rattle.lg_json.specs.declared.state.TextMode.{TextMode}
+
+-- an object's members, and the name whose value is to come
+abbrev pub object_view : List Member → Option (List ℕ) → machine.Frame
+object_view ms None = machine.Frame.in_object (map entry ms)
+object_view ms (Some name) = machine.Frame.named (map entry ms) name
 
 abbrev pub frame_view : Frame → machine.Frame
 frame_view (Frame.List items) = machine.Frame.in_list (map tree items)
-frame_view (Frame.Object ms) = machine.Frame.in_object (map entry ms)
-frame_view (Frame.Named ms name) = machine.Frame.named (map entry ms) name
+frame_view (Frame.Object o) = object_view o.0 o.1
 
+-- what is open, the innermost first; the reader keeps it last
 abbrev pub frames_view : List Frame → List machine.Frame
-frames_view fs = map frame_view fs
+frames_view fs = reverse (map frame_view fs)
 
 abbrev pub next_view : Next → machine.Mode
 next_view Next.Value = machine.Mode.before_value
@@ -27,8 +32,8 @@ next_view Next.Colon = machine.Mode.before_colon
 next_view Next.Comma = machine.Mode.after_item
 next_view (Next.End value) = machine.Mode.ended (tree value)
 
-abbrev pub view : State → machine.State
-view s = machine.at (frames_view s.frames) (next_view s.next)
+abbrev pub standing : List Frame → Next → machine.State
+standing fs n = machine.at (frames_view fs) (next_view n)
 
 -- the answer is this fault, or want of memory, of which nothing is said
 abbrev pub Fails : {A : Type 0} → JsonFault → Result A JsonFault → Type 0
@@ -52,13 +57,26 @@ with_text t (Some m) = Some (t, m)
 abbrev pub entries_view : List Member → List Entry
 entries_view ms = map entry ms
 
--- what comes after a comma in what is open
-abbrev pub comma_mode : machine.Frame → Option machine.Mode
-comma_mode (machine.Frame.in_list ts) = Some machine.Mode.before_value
-comma_mode (machine.Frame.in_object ms) = Some machine.Mode.before_name
-comma_mode (machine.Frame.named ms name) = None
+-- what comes after a comma in what is open, where one may come
+abbrev pub AfterComma : List machine.Frame → Option Next → Type 0
+AfterComma fs None = (i : ℕ) → machine.follow_on i fs 44 ≡ Err (Syntax i)
+AfterComma fs (Some n) = (i : ℕ) → machine.follow_on i fs 44 ≡ Ok (machine.at fs (next_view n))
 
--- a state with a place
-abbrev pub placed : Result State JsonFault → ℕ → Result (State × ℕ) JsonFault
-placed (Ok s) p = Ok (s, p)
+-- the value of what the byte closes, where it closes it
+abbrev pub IsClosed : machine.Frame → ℕ → Option Json → Type 0
+IsClosed f b None = (i : ℕ) (fs : List machine.Frame) → machine.follow_on i (f ∷ fs) b ≡ Err (Syntax i)
+IsClosed f b (Some v) = (i : ℕ) (fs : List machine.Frame) → machine.follow_on i (f ∷ fs) b ≡ Ok (machine.complete fs (tree v))
+
+-- an open object after a name: whether it is new
+abbrev pub IsNamed : List Member → List ℕ → List Member × Option (List ℕ) → Bool → Type 0
+IsNamed ms name object true = (machine.has_name name (entries_view ms) ≡ false) × (object ≡ (ms, Some name))
+IsNamed ms name object false = machine.has_name name (entries_view ms) ≡ true
+
+-- an open object after a value
+abbrev pub IsCompleted : List Member × Option (List ℕ) → Json → List Member × Option (List ℕ) → Type 0
+IsCompleted before value after = object_view after.0 after.1 ≡ machine.with_value (object_view before.0 before.1) (tree value)
+
+-- what comes next, with a place
+abbrev pub placed : Result Next JsonFault → ℕ → Result (Next × ℕ) JsonFault
+placed (Ok n) p = Ok (n, p)
 placed (Err f) p = Err f

@@ -1,191 +1,198 @@
 //! What is open: lists, objects, and the values that stand in them.
-ghost use Rattle.std.specs.Prelude.{◌≡◌, ◌⊎◌, IfOk, Ok, bytes_eq, option_map};
+ghost use Rattle.std.specs.Prelude.{◌≡◌, ◌⊎◌, List, [], ◌∷◌, OnOk, MatchOption, Ok};
 ghost use Rattle.lg_json.specs.Reading as machine;
 ghost use Rattle.lg_json.specs.Tree.{tree};
-ghost use Rattle.lg_json.specs.View.{Gives, view, frame_view, frames_view, next_view, entries_view, comma_mode};
+ghost use Rattle.lg_json.specs.View.{Gives, standing, frame_view, frames_view, next_view, AfterComma, IsClosed};
 
-use crate::json::{Json, JsonFault, Member};
-use crate::stack::Stack;
-use crate::state::{Frame, Next, State};
+use crate::json::{Json, JsonFault};
+use crate::state::{Frame, Next, OpenFrames};
 use lg_containers::Text;
-use sqlite_items::{Boxed, Items};
+use sqlite_items::Boxed;
 use std::alloc::{AllocError, Global};
 
 /// The most lists and objects that are open at once.
 const MOST_OPEN: usize = 64;
 
-/// The frame with a value where one was to come.
-fn with_value(frame: Frame, value: Json) -> Result<Frame, AllocError>
-    ensures { IfOk result (λ f. frame_view f ≡ machine.with_value (frame_view frame) (tree value)) }
+/// Puts a value where one was to come.
+#[inline(always)]
+fn put_value(frame: &mut Frame, value: Json) -> Result<(), AllocError>
+    ensures { OnOk result (frame_view frame.new ≡ machine.with_value (frame_view frame.old) (tree value)) }
 {
     match frame {
-        Frame::List(mut items) => {
-            items.push(value)?;
-            Ok(Frame::List(items))
-        }
-        Frame::Object(members) => Ok(Frame::Object(members)),
-        Frame::Named(mut members, name) => {
-            members.push(Member { name, value })?;
-            Ok(Frame::Object(members))
-        }
+        Frame::List(items) => items.push(value),
+        Frame::Object(object) => object.put_value(value),
     }
 }
 
-/// The state after a value that is complete.
-pub fn complete(alloc: Global, frames: Stack<Frame>, value: Json) -> Result<State, JsonFault>
-    ensures { Gives view result (Ok (machine.complete (frames_view frames) (tree value))) }
+/// What comes after a value that is complete.
+#[inline(always)]
+pub fn complete(alloc: Global, frames: &mut OpenFrames, value: Json) -> Result<Next, JsonFault>
+    ensures { Gives (standing frames.new.items) result (Ok (machine.complete (frames_view frames.old.items) (tree value))) }
 {
-    let Some((top, frames)) = frames.split() else {
-        return Ok(State {
-            frames: Stack::new(alloc),
-            next: Next::End(Boxed::new(alloc, value)?),
-        });
-    };
-    let frames = frames.with(with_value(top, value)?)?;
-    Ok(State {
-        frames,
-        next: Next::Comma,
-    })
+    match frames.last_mut() {
+        Some(frame) => {
+            put_value(frame, value)?;
+            Ok(Next::Comma)
+        }
+        None => Ok(Next::End(Boxed::new(alloc, value)?)),
+    }
 }
 
-/// The state after `[` or `{` at `place`.
+/// What comes after `[` or `{` at `place`.
 pub fn open_frame(
     place: usize,
-    frames: Stack<Frame>,
+    frames: &mut OpenFrames,
     frame: Frame,
     next: Next,
-) -> Result<State, JsonFault>
-    ensures { Gives view result (machine.open_frame place (frames_view frames) (frame_view frame) (next_view next)) }
+) -> Result<Next, JsonFault>
+    ensures { Gives (standing frames.new.items) result (machine.open_frame place (frames_view frames.old.items) (frame_view frame) (next_view next)) }
 {
     if frames.len() < MOST_OPEN {
-        let frames = frames.with(frame)?;
-        Ok(State { frames, next })
+        push_frame(frames, frame)?;
+        Ok(next)
     } else {
         Err(JsonFault::TooDeep { place })
     }
 }
 
-/// The state after a list or an object that ends at `place` with no item.
+fn push_frame(frames: &mut OpenFrames, frame: Frame) -> Result<(), AllocError>
+    ensures { OnOk result (frames_view frames.new.items ≡ frame_view frame ∷ frames_view frames.old.items) }
+{
+    frames.push(frame)?;
+    Ok(())
+}
+
+/// The innermost of what is open, which ends.
+fn pop_frame(frames: &mut OpenFrames) -> Option<Frame>
+    ensures { MatchOption result (frames_view frames.old.items ≡ []) (λ frame. frames_view frames.old.items ≡ frame_view frame ∷ frames_view frames.new.items) }
+{
+    frames.pop()
+}
+
+/// What comes after a list or an object that ends at `place` with no item.
 pub fn close_empty(
     alloc: Global,
     place: usize,
-    frames: Stack<Frame>,
+    frames: &mut OpenFrames,
     value: Json,
-) -> Result<State, JsonFault>
-    ensures { Gives view result (machine.close_empty place (frames_view frames) (tree value)) }
+) -> Result<Next, JsonFault>
+    ensures { Gives (standing frames.new.items) result (machine.close_empty place (frames_view frames.old.items) (tree value)) }
 {
-    let Some((_, frames)) = frames.split() else {
-        return Err(JsonFault::Syntax { place });
-    };
-    complete(alloc, frames, value)
-}
-
-/// The state after `]` or `}` at `place`, the end of a list or of an object.
-fn close(alloc: Global, place: usize, frames: Stack<Frame>, byte: u8) -> Result<State, JsonFault>
-    requires { (byte ≡ 93) ⊎ (byte ≡ 125) }
-    ensures { Gives view result (machine.follow_on place (frames_view frames) byte) }
-{
-    let Some((top, frames)) = frames.split() else {
-        return Err(JsonFault::Syntax { place });
-    };
-    match top {
-        Frame::List(items) => {
-            if byte == b']' {
-                return complete(alloc, frames, Json::List(items));
-            }
-            Err(JsonFault::Syntax { place })
-        }
-        Frame::Object(members) => {
-            if byte == b'}' {
-                return complete(alloc, frames, Json::Members(members));
-            }
-            Err(JsonFault::Syntax { place })
-        }
-        Frame::Named(_, _) => Err(JsonFault::Syntax { place }),
+    match pop_frame(frames) {
+        Some(_) => complete(alloc, frames, value),
+        None => Err(JsonFault::Syntax { place }),
     }
 }
 
-/// The state after a byte at `place`, no blank, that follows an item or a member.
+/// The value of the list or the object that the byte ends, where it ends the innermost that is open.
+fn closed(frame: Frame, byte: u8) -> Option<Json>
+    requires { (byte ≡ 93) ⊎ (byte ≡ 125) }
+    ensures { IsClosed (frame_view frame) byte result }
+{
+    match frame {
+        Frame::List(items) => {
+            if byte == b']' {
+                return Some(Json::List(items));
+            }
+            None
+        }
+        Frame::Object(object) => {
+            if byte == b'}' && !object.is_waiting() {
+                return Some(Json::Members(object.into_members()));
+            }
+            None
+        }
+    }
+}
+
+/// What comes after `]` or `}` at `place`, the end of a list or of an object.
+fn close(
+    alloc: Global,
+    place: usize,
+    frames: &mut OpenFrames,
+    byte: u8,
+) -> Result<Next, JsonFault>
+    requires { (byte ≡ 93) ⊎ (byte ≡ 125) }
+    ensures { Gives (standing frames.new.items) result (machine.follow_on place (frames_view frames.old.items) byte) }
+{
+    let Some(frame) = pop_frame(frames) else {
+        return Err(JsonFault::Syntax { place });
+    };
+    match closed(frame, byte) {
+        Some(value) => complete(alloc, frames, value),
+        None => Err(JsonFault::Syntax { place }),
+    }
+}
+
+/// What comes after a byte at `place`, no blank, that follows an item or a member.
 pub fn follow_on(
     alloc: Global,
     place: usize,
-    frames: Stack<Frame>,
+    frames: &mut OpenFrames,
     byte: u8,
-) -> Result<State, JsonFault>
-    ensures { Gives view result (machine.follow_on place (frames_view frames) byte) }
+) -> Result<Next, JsonFault>
+    ensures { Gives (standing frames.new.items) result (machine.follow_on place (frames_view frames.old.items) byte) }
 {
     match byte {
-        b',' => after_comma(place, frames),
+        b',' => match next_after_comma(frames) {
+            Some(next) => Ok(next),
+            None => Err(JsonFault::Syntax { place }),
+        },
         b']' | b'}' => close(alloc, place, frames, byte),
         _ => Err(JsonFault::Syntax { place }),
     }
 }
 
 /// What comes after a comma in what is open.
-fn next_after_comma(top: &Frame) -> Option<Next>
-    ensures { option_map next_view result ≡ comma_mode (frame_view top.now) }
+fn next_after_comma(frames: &OpenFrames) -> Option<Next>
+    ensures { AfterComma (frames_view frames.now.items) result }
 {
-    match top {
+    match frames.last()? {
         Frame::List(_) => Some(Next::Value),
-        Frame::Object(_) => Some(Next::Name),
-        Frame::Named(_, _) => None,
-    }
-}
-
-/// The state after a comma at `place`.
-fn after_comma(place: usize, frames: Stack<Frame>) -> Result<State, JsonFault>
-    ensures { Gives view result (machine.follow_on place (frames_view frames) 44) }
-{
-    let Some(top) = frames.top() else {
-        return Err(JsonFault::Syntax { place });
-    };
-    match next_after_comma(top) {
-        Some(next) => Ok(State { frames, next }),
-        None => Err(JsonFault::Syntax { place }),
-    }
-}
-
-fn same_bytes(a: &[u8], b: &[u8]) -> bool
-    ensures { result ≡ bytes_eq a.now b.now }
-{
-    a == b
-}
-
-/// Whether a member has the name.
-fn has_name(name: &[u8], members: &[Member]) -> bool
-    ensures { result ≡ machine.has_name name.now (entries_view members.now) }
-{
-    for member in members {
-        if same_bytes(member.name.bytes(), name) {
-            return true;
+        Frame::Object(object) => {
+            if object.is_waiting() {
+                return None;
+            }
+            Some(Next::Name)
         }
     }
-    false
 }
 
-/// The state after a member's name, which was quoted from `quote` on and ended at `place`.
+/// What comes after a name in the innermost that is open.
+fn name_member(
+    place: usize,
+    quote: usize,
+    frame: &mut Frame,
+    name: Text,
+) -> Result<Next, JsonFault>
+    ensures { (fs : List machine.Frame) → Gives (λ n. machine.at (frame_view frame.new ∷ fs) (next_view n)) result (machine.with_name place quote (frame_view frame.old ∷ fs) name) }
+{
+    match frame {
+        Frame::List(_) => Err(JsonFault::Syntax { place }),
+        Frame::Object(object) => {
+            if object.is_waiting() {
+                return Err(JsonFault::Syntax { place });
+            }
+            if object.name_next(name)? {
+                Ok(Next::Colon)
+            } else {
+                Err(JsonFault::Repeated { place: quote })
+            }
+        }
+    }
+}
+
+/// What comes after a member's name, which was quoted from `quote` on and ended at `place`.
 pub fn with_name(
     place: usize,
     quote: usize,
-    frames: Stack<Frame>,
+    frames: &mut OpenFrames,
     name: Text,
-) -> Result<State, JsonFault>
-    ensures { Gives view result (machine.with_name place quote (frames_view frames) name) }
+) -> Result<Next, JsonFault>
+    ensures { Gives (standing frames.new.items) result (machine.with_name place quote (frames_view frames.old.items) name) }
 {
-    let Some((top, frames)) = frames.split() else {
-        return Err(JsonFault::Syntax { place });
-    };
-    match top {
-        Frame::Object(members) => {
-            if has_name(name.bytes(), members.as_slice()) {
-                return Err(JsonFault::Repeated { place: quote });
-            }
-            let frames = frames.with(Frame::Named(members, name))?;
-            Ok(State {
-                frames,
-                next: Next::Colon,
-            })
-        }
-        _ => Err(JsonFault::Syntax { place }),
+    match frames.last_mut() {
+        Some(frame) => name_member(place, quote, frame, name),
+        None => Err(JsonFault::Syntax { place }),
     }
 }

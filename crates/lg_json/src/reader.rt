@@ -1,15 +1,15 @@
 //! The reading of a whole text.
-ghost use Rattle.std.specs.Prelude.{◌≡◌, IfOk, IfErr, Ok, Err};
+ghost use Rattle.std.specs.Prelude.{◌≡◌, List, IfOk, IfErr, Ok, Err};
 ghost use Rattle.lg_json.specs.Fault.{IsFault, MayFail};
 ghost use Rattle.lg_json.specs.Grammar.{IsJson, Fits};
 ghost use Rattle.lg_json.specs.Reading as machine;
 ghost use Rattle.lg_json.specs.Tree.{Tree, tree};
-ghost use Rattle.lg_json.specs.View.{Gives, frames_view, next_view};
+ghost use Rattle.lg_json.specs.View.{Gives, next_view};
 ghost use Rattle.lg_json.specs.declared.json.JsonFault.{JsonFault};
 
+use crate::blanks::skip_blanks;
 use crate::json::{Json, JsonFault};
-use crate::stack::Stack;
-use crate::state::{Next, State};
+use crate::state::Next;
 use crate::step::step;
 use std::alloc::Global;
 
@@ -36,25 +36,22 @@ pub fn read(alloc: Global, bytes: &[u8]) -> Result<Json, JsonFault>
 fn read_all(alloc: Global, bytes: &[u8]) -> Result<Json, JsonFault>
     ensures { Gives tree result (machine.reading bytes.now) }
 {
-    let mut state = State {
-        frames: Stack::new(alloc),
-        next: Next::Value,
-    };
-    let mut place = 0;
+    let mut frames = Vec::new(alloc);
+    let mut next = Next::Value;
+    let mut place = skip_blanks(bytes, 0);
     'steps: while place < bytes.len() {
-        let (next, after) = step(alloc, bytes, place, state)?;
-        state = next;
-        place = after;
+        let (after, end) = step(alloc, bytes, place, &mut frames, &next)?;
+        next = after;
+        place = skip_blanks(bytes, end);
     }
-    finish(bytes.len(), state)
+    finish(bytes.len(), next)
 }
 
 /// The value where the bytes end at `place`.
 #[tactic(auto, unfolding(crate::specs::Reading::finish))]
-fn finish(place: usize, state: State) -> Result<Json, JsonFault>
-    ensures { Gives tree result (machine.finish place (frames_view state.frames) (next_view state.next)) }
+fn finish(place: usize, next: Next) -> Result<Json, JsonFault>
+    ensures { (fs : List machine.Frame) → Gives tree result (machine.finish place fs (next_view next)) }
 {
-    let State { frames: _, next } = state;
     match next {
         Next::End(value) => Ok(value.into_inner()),
         _ => Err(JsonFault::Syntax { place }),

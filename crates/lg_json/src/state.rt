@@ -1,6 +1,5 @@
-use crate::json::{Json, Member};
-use crate::stack::Stack;
-use lg_containers::Text;
+use crate::json::Json;
+use crate::object::OpenObject;
 use lg_containers::utf8::Utf8State;
 use sqlite_items::{Boxed, Items};
 
@@ -8,10 +7,11 @@ use sqlite_items::{Boxed, Items};
 #[derive(Drop)]
 pub enum Frame {
     List(Items<Json>),
-    Object(Items<Member>),
-    /// An object whose last name has its value still to come.
-    Named(Items<Member>, Text),
+    Object(OpenObject),
 }
+
+/// The lists and objects that are open, the innermost last.
+pub type OpenFrames = Vec<Frame>;
 
 /// Where the reading of a text stands, between its quotes.
 #[derive(Clone, Copy)]
@@ -43,11 +43,4 @@ pub enum Next {
     Comma,
     /// Nothing: the whole value.
     End(Boxed<Json>),
-}
-
-/// Where the reading stands: what is open, the innermost first, and what comes next.
-#[derive(Drop)]
-pub struct State {
-    pub frames: Stack<Frame>,
-    pub next: Next,
 }

@@ -3,28 +3,27 @@ ghost use Rattle.std.specs.Prelude.{◌≡◌, ◌+◌, ◌<◌, ◌≤◌, Ok, 
 ghost use Rattle.lg_json.specs.Reading as machine;
 ghost use Rattle.lg_json.specs.Tokens.{Moves, IsNumberByte, IsOtherByte, begins};
 ghost use Rattle.lg_json.specs.Tree.{tree};
-ghost use Rattle.lg_json.specs.View.{view, frame_view, frames_view, next_view, placed};
+ghost use Rattle.lg_json.specs.View.{standing, frame_view, frames_view, next_view, placed};
 ghost use Rattle.lg_json.specs.declared.state.TextMode.TheVariants.{Character};
 ghost use Rattle.lg_containers.specs.declared.utf8.Utf8State.TheVariants.{Boundary};
 
-use crate::blanks::skip_blanks;
 use crate::json::{Json, JsonFault};
 use crate::number::read_number;
 use crate::open::{close_empty, complete, follow_on, open_frame, with_name};
-use crate::stack::Stack;
-use crate::state::{Frame, Next, State};
+use crate::object::OpenObject;
+use crate::state::{Frame, Next, OpenFrames};
 use crate::text::read_text;
 use crate::word::read_word;
 use sqlite_items::Items;
 use std::alloc::Global;
 
-/// The state, where there is one, with the place after what was read.
+/// What comes next, where there is no fault, with the place after what was read.
 #[inline(always)]
-fn at_place(outcome: Result<State, JsonFault>, place: usize) -> Result<(State, usize), JsonFault>
+fn at_place(outcome: Result<Next, JsonFault>, place: usize) -> Result<(Next, usize), JsonFault>
     ensures { result ≡ placed outcome place }
 {
     match outcome {
-        Ok(state) => Ok((state, place)),
+        Ok(next) => Ok((next, place)),
         Err(fault) => Err(fault),
     }
 }
@@ -35,11 +34,11 @@ fn begin_text(
     alloc: Global,
     bytes: &[u8],
     place: usize,
-    frames: Stack<Frame>,
-) -> Result<(State, usize), JsonFault>
+    frames: &mut OpenFrames,
+) -> Result<(Next, usize), JsonFault>
     requires within { place < length bytes.now }
     requires quote { slice_index bytes.now place ≡ 34 }
-    ensures { Moves bytes.now place (begins place (frames_view frames) (drop place bytes.now)) result }
+    ensures { Moves bytes.now place (begins place (frames_view frames.old.items) (drop place bytes.now)) frames.new.items result }
 {
     let (text, quote) = read_text(alloc, bytes, place + 1)?;
     at_place(complete(alloc, frames, Json::Text(text)), quote + 1)
@@ -51,11 +50,11 @@ fn begin_number(
     alloc: Global,
     bytes: &[u8],
     place: usize,
-    frames: Stack<Frame>,
-) -> Result<(State, usize), JsonFault>
+    frames: &mut OpenFrames,
+) -> Result<(Next, usize), JsonFault>
     requires within { place < length bytes.now }
     requires byte { IsNumberByte (slice_index bytes.now place) }
-    ensures { Moves bytes.now place (begins place (frames_view frames) (drop place bytes.now)) result }
+    ensures { Moves bytes.now place (begins place (frames_view frames.old.items) (drop place bytes.now)) frames.new.items result }
 {
     let (number, end) = read_number(bytes, place)?;
     at_place(complete(alloc, frames, Json::Whole(number)), end)
@@ -66,14 +65,14 @@ fn begin_word(
     alloc: Global,
     bytes: &[u8],
     place: usize,
-    frames: Stack<Frame>,
+    frames: &mut OpenFrames,
     rest: &[u8],
     value: Json,
-) -> Result<(State, usize), JsonFault>
+) -> Result<(Next, usize), JsonFault>
     requires within { place < length bytes.now }
     requires some { 0 < length rest.now }
     requires first { (fs : List machine.Frame) → machine.begin place fs (slice_index bytes.now place) ≡ Ok (machine.at fs (machine.Mode.in_word rest.now (tree value))) }
-    ensures { Moves bytes.now place (begins place (frames_view frames) (drop place bytes.now)) result }
+    ensures { Moves bytes.now place (begins place (frames_view frames.old.items) (drop place bytes.now)) frames.new.items result }
 {
     let end = read_word(bytes, place + 1, rest)?;
     at_place(complete(alloc, frames, value), end)
@@ -84,13 +83,13 @@ fn begin_word(
 fn begin_frame(
     bytes: &[u8],
     place: usize,
-    frames: Stack<Frame>,
+    frames: &mut OpenFrames,
     frame: Frame,
     next: Next,
-) -> Result<(State, usize), JsonFault>
+) -> Result<(Next, usize), JsonFault>
     requires within { place < length bytes.now }
     requires first { (fs : List machine.Frame) → machine.begin place fs (slice_index bytes.now place) ≡ machine.open_frame place fs (frame_view frame) (next_view next) }
-    ensures { Moves bytes.now place (begins place (frames_view frames) (drop place bytes.now)) result }
+    ensures { Moves bytes.now place (begins place (frames_view frames.old.items) (drop place bytes.now)) frames.new.items result }
 {
     at_place(open_frame(place, frames, frame, next), place + 1)
 }
@@ -107,11 +106,11 @@ fn begin_other(
     alloc: Global,
     bytes: &[u8],
     place: usize,
-    frames: Stack<Frame>,
-) -> Result<(State, usize), JsonFault>
+    frames: &mut OpenFrames,
+) -> Result<(Next, usize), JsonFault>
     requires within { place < length bytes.now }
     requires other { IsOtherByte (slice_index bytes.now place) }
-    ensures { Moves bytes.now place (begins place (frames_view frames) (drop place bytes.now)) result }
+    ensures { Moves bytes.now place (begins place (frames_view frames.old.items) (drop place bytes.now)) frames.new.items result }
 {
     if is_number_byte(bytes[place]) {
         begin_number(alloc, bytes, place, frames)
@@ -125,10 +124,10 @@ fn begin(
     alloc: Global,
     bytes: &[u8],
     place: usize,
-    frames: Stack<Frame>,
-) -> Result<(State, usize), JsonFault>
+    frames: &mut OpenFrames,
+) -> Result<(Next, usize), JsonFault>
     requires { place < length bytes.now }
-    ensures { Moves bytes.now place (begins place (frames_view frames) (drop place bytes.now)) result }
+    ensures { Moves bytes.now place (begins place (frames_view frames.old.items) (drop place bytes.now)) frames.new.items result }
 {
     match bytes[place] {
         b'"' => begin_text(alloc, bytes, place, frames),
@@ -143,7 +142,7 @@ fn begin(
             bytes,
             place,
             frames,
-            Frame::Object(Items::new(alloc)),
+            Frame::Object(OpenObject::new(alloc)),
             Next::FirstName,
         ),
         b'n' => begin_word(alloc, bytes, place, frames, b"ull", Json::Null),
@@ -159,10 +158,10 @@ fn begin_name(
     alloc: Global,
     bytes: &[u8],
     place: usize,
-    frames: Stack<Frame>,
-) -> Result<(State, usize), JsonFault>
+    frames: &mut OpenFrames,
+) -> Result<(Next, usize), JsonFault>
     requires { place < length bytes.now }
-    ensures { Moves bytes.now place (machine.reads (place + 1) (machine.begin_name place (frames_view frames)) (drop (place + 1) bytes.now)) result }
+    ensures { Moves bytes.now place (machine.reads (place + 1) (machine.begin_name place (frames_view frames.old.items)) (drop (place + 1) bytes.now)) frames.new.items result }
 {
     let (name, quote) = read_text(alloc, bytes, place + 1)?;
     at_place(with_name(quote, place, frames, name), quote + 1)
@@ -174,11 +173,11 @@ fn step_first(
     alloc: Global,
     bytes: &[u8],
     place: usize,
-    frames: Stack<Frame>,
-) -> Result<(State, usize), JsonFault>
+    frames: &mut OpenFrames,
+) -> Result<(Next, usize), JsonFault>
     requires within { place < length bytes.now }
     requires no_blank { machine.is_blank (slice_index bytes.now place) ≡ false }
-    ensures { Moves bytes.now place (machine.reads place (machine.at (frames_view frames) machine.Mode.before_first) (drop place bytes.now)) result }
+    ensures { Moves bytes.now place (machine.reads place (machine.at (frames_view frames.old.items) machine.Mode.before_first) (drop place bytes.now)) frames.new.items result }
 {
     if bytes[place] == b']' {
         let value = Json::List(Items::new(alloc));
@@ -194,11 +193,11 @@ fn step_first_name(
     alloc: Global,
     bytes: &[u8],
     place: usize,
-    frames: Stack<Frame>,
-) -> Result<(State, usize), JsonFault>
+    frames: &mut OpenFrames,
+) -> Result<(Next, usize), JsonFault>
     requires within { place < length bytes.now }
     requires no_blank { machine.is_blank (slice_index bytes.now place) ≡ false }
-    ensures { Moves bytes.now place (machine.reads place (machine.at (frames_view frames) machine.Mode.before_first_name) (drop place bytes.now)) result }
+    ensures { Moves bytes.now place (machine.reads place (machine.at (frames_view frames.old.items) machine.Mode.before_first_name) (drop place bytes.now)) frames.new.items result }
 {
     if bytes[place] == b'"' {
         return begin_name(alloc, bytes, place, frames);
@@ -216,11 +215,11 @@ fn step_name(
     alloc: Global,
     bytes: &[u8],
     place: usize,
-    frames: Stack<Frame>,
-) -> Result<(State, usize), JsonFault>
+    frames: &mut OpenFrames,
+) -> Result<(Next, usize), JsonFault>
     requires within { place < length bytes.now }
     requires no_blank { machine.is_blank (slice_index bytes.now place) ≡ false }
-    ensures { Moves bytes.now place (machine.reads place (machine.at (frames_view frames) machine.Mode.before_name) (drop place bytes.now)) result }
+    ensures { Moves bytes.now place (machine.reads place (machine.at (frames_view frames.old.items) machine.Mode.before_name) (drop place bytes.now)) frames.new.items result }
 {
     if bytes[place] == b'"' {
         return begin_name(alloc, bytes, place, frames);
@@ -230,14 +229,13 @@ fn step_name(
 
 /// The colon after a name.
 #[inline(always)]
-fn step_colon(bytes: &[u8], place: usize, frames: Stack<Frame>) -> Result<(State, usize), JsonFault>
+fn step_colon(bytes: &[u8], place: usize, frames: &mut OpenFrames) -> Result<(Next, usize), JsonFault>
     requires within { place < length bytes.now }
     requires no_blank { machine.is_blank (slice_index bytes.now place) ≡ false }
-    ensures { Moves bytes.now place (machine.reads place (machine.at (frames_view frames) machine.Mode.before_colon) (drop place bytes.now)) result }
+    ensures { Moves bytes.now place (machine.reads place (machine.at (frames_view frames.old.items) machine.Mode.before_colon) (drop place bytes.now)) frames.new.items result }
 {
     if bytes[place] == b':' {
-        let next = Next::Value;
-        return Ok((State { frames, next }, place + 1));
+        return Ok((Next::Value, place + 1));
     }
     Err(JsonFault::Syntax { place })
 }
@@ -248,28 +246,28 @@ fn step_comma(
     alloc: Global,
     bytes: &[u8],
     place: usize,
-    frames: Stack<Frame>,
-) -> Result<(State, usize), JsonFault>
+    frames: &mut OpenFrames,
+) -> Result<(Next, usize), JsonFault>
     requires within { place < length bytes.now }
     requires no_blank { machine.is_blank (slice_index bytes.now place) ≡ false }
-    ensures { Moves bytes.now place (machine.reads place (machine.at (frames_view frames) machine.Mode.after_item) (drop place bytes.now)) result }
+    ensures { Moves bytes.now place (machine.reads place (machine.at (frames_view frames.old.items) machine.Mode.after_item) (drop place bytes.now)) frames.new.items result }
 {
     at_place(follow_on(alloc, place, frames, bytes[place]), place + 1)
 }
 
-/// The step at a byte that is no blank.
+/// What comes next after the step at a byte that is no blank, and the place after it.
 #[inline(always)]
-fn step_at(
+pub fn step(
     alloc: Global,
     bytes: &[u8],
     place: usize,
-    state: State,
-) -> Result<(State, usize), JsonFault>
+    frames: &mut OpenFrames,
+    next: &Next,
+) -> Result<(Next, usize), JsonFault>
     requires within { place < length bytes.now }
     requires no_blank { machine.is_blank (slice_index bytes.now place) ≡ false }
-    ensures { Moves bytes.now place (machine.reads place (view state) (drop place bytes.now)) result }
+    ensures { Moves bytes.now place (machine.reads place (standing frames.old.items next.now) (drop place bytes.now)) frames.new.items result }
 {
-    let State { frames, next } = state;
     match next {
         Next::Value => begin(alloc, bytes, place, frames),
         Next::First => step_first(alloc, bytes, place, frames),
@@ -278,24 +276,5 @@ fn step_at(
         Next::Colon => step_colon(bytes, place, frames),
         Next::Comma => step_comma(alloc, bytes, place, frames),
         Next::End(_) => Err(JsonFault::Syntax { place }),
-    }
-}
-
-/// The state after one step from `place` on, and the place after it.
-#[inline(always)]
-pub fn step(
-    alloc: Global,
-    bytes: &[u8],
-    place: usize,
-    state: State,
-) -> Result<(State, usize), JsonFault>
-    requires { place < length bytes.now }
-    ensures { Moves bytes.now place (machine.reads place (view state) (drop place bytes.now)) result }
-{
-    let at = skip_blanks(bytes, place);
-    if at == bytes.len() {
-        Ok((state, at))
-    } else {
-        step_at(alloc, bytes, at, state)
     }
 }

@@ -7,8 +7,8 @@ use Rattle.lg_json.proofs.step.begin_word.Goals as goal
 
 pub returns : goal.returns
 returns c =
-    let fs = frames_view c.args.frames in
+    let fs = frames_view c.args.frames.now.items in
     let t = tree c.args.value in
     rw c.at_place.ensures
-    (moves_placed c.args.bytes.now c.args.place c.in_ok-end.end _ (Ok (complete fs t)) c.complete.result (omega (arith, c.in_ok-end.ensures.0)) c.in_ok-end.ensures.1
+    (moves_placed c.args.bytes.now c.args.place c.in_ok-end.end _ (Ok (complete fs t)) c.complete.new.frames.items c.complete.result (omega (arith, c.in_ok-end.ensures.0)) c.in_ok-end.ensures.1
     (word_value c.args.bytes.now c.args.place c.in_ok-end.end c.args.rest.now fs t c.requires.within (c.requires.first fs) _ (c.in_ok-end.ensures.2 fs t)) c.complete.ensures)

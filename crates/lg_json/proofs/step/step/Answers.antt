@@ -1,9 +1,8 @@
-use Rattle.lg_json.proofs.Steps.{moves_after, skipped}
-use Rattle.std.proofs.Common.{arith}
+use Rattle.lg_json.proofs.Steps.{value_at, end_at}
 use Rattle.lg_json.proofs.step.step.Goals as goal
 
-pub returns-then-at-bytes : goal.returns-then-at-bytes
-returns-then-at-bytes c = (omega arith, omega arith, skipped c.args.bytes.now c.args.place c.skip_blanks-at.result c.args.state c.skip_blanks-at.ensures.skips)
+pub returns-in-Value : goal.returns-in-Value
+returns-in-Value c = value_at c.args.bytes.now c.args.place c.args.frames.now.items c.args.next.now c.begin.new.frames.items _ c.requires.within c.requires.no_blank c.in-Value.is c.begin.ensures
 
-pub returns-else-at-bytes : goal.returns-else-at-bytes
-returns-else-at-bytes c = moves_after c.args.bytes.now c.args.place c.skip_blanks-at.result c.args.state _ c.skip_blanks-at.ensures.skips c.step_at.ensures
+pub returns-in-End : goal.returns-in-End
+returns-in-End c = end_at c.args.bytes.now c.args.place c.args.frames.now.items c.args.next.now _ c.requires.within c.requires.no_blank c.in-End.is

@@ -7,10 +7,10 @@ use Rattle.lg_json.proofs.step.step_colon.Goals as goal
 
 pub returns-then-bytes-place-eq58 : goal.returns-then-bytes-place-eq58
 returns-then-bytes-place-eq58 c =
-    let fs = frames_view c.args.frames in
+    let fs = frames_view c.args.frames.now.items in
     (omega arith, omega arith, one_byte c.args.bytes.now c.args.place fs before_colon _ c.requires.within (colon_byte c.args.place fs _ c.if-bytes-place-eq58.true))
 
 pub returns : goal.returns
 returns c =
-    let fs = frames_view c.args.frames in
+    let fs = frames_view c.args.frames.now.items in
     stop_byte c.args.bytes.now c.args.place fs before_colon _ c.requires.within (colon_other c.args.place fs _ c.requires.no_blank c.if-bytes-place-eq58.false)

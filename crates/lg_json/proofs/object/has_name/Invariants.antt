@@ -2,7 +2,7 @@
 use Rattle.std.proofs.Common.{◌≡◌, drop}
 use Rattle.lg_json.specs.Reading as machine
 use Rattle.lg_json.specs.View.{entries_view}
-use Rattle.lg_json.proofs.open.has_name.Given as goal
+use Rattle.lg_json.proofs.object.has_name.Given as goal
 
 abbrev pub invariant-loop-member : goal.invariant-loop-member
 invariant-loop-member l =
