@@ -20,3 +20,4 @@ pub mod Tokens
 pub mod Steps
 pub mod Values
 pub mod OpenFrames
+pub mod Placing

@@ -6,3 +6,4 @@ pub mod Tokens
 pub mod Texts
 pub mod Before
 pub mod Fault
+pub mod Places

@@ -4,6 +4,7 @@
 
 mod blanks;
 mod copy;
+mod index;
 mod json;
 mod number;
 mod object;

@@ -1,8 +1,8 @@
 //! An object that is open.
-ghost use Rattle.std.specs.Prelude.{◌≡◌, ◌++◌, [], ◌∷◌, true, Some, None, bytes_eq, IfOk, IsSome, IsTrue, ◌↔◌};
-ghost use Rattle.lg_json.specs.Reading as machine;
-ghost use Rattle.lg_json.specs.View.{entries_view, IsNamed, IsCompleted};
+ghost use Rattle.std.specs.Prelude.{◌≡◌, [], None, IfOk, IsSome, IsTrue, ◌↔◌};
+ghost use Rattle.lg_json.specs.View.{IsNamed, IsCompleted};
 
+use crate::index::{NameIndex, look_up};
 use crate::json::{Json, Member};
 use lg_containers::Text;
 use sqlite_items::Items;
@@ -14,6 +14,8 @@ use std::marker::Model;
 pub struct OpenObject {
     members: Items<Member>,
     waiting: Option<Text>,
+    /// An index of the names, `waiting` too, where there are more than a few.
+    index: Option<NameIndex>,
 }
 
 impl Model for OpenObject {
@@ -26,25 +28,11 @@ impl Model for OpenObject {
 
     ghost coded = { coded× (coded_list member.the_row.coded) (coded_option (coded_list coded_ℕ)) };
 
+    ghost use Rattle.lg_json.specs.Places.{all_names, IsCovering};
+
     ghost view = { λ o. (o.members, o.waiting) };
-}
 
-fn same_bytes(a: &[u8], b: &[u8]) -> bool
-    ensures { result ≡ bytes_eq a.now b.now }
-{
-    a == b
-}
-
-/// Whether a member has the name.
-fn has_name(name: &[u8], members: &[Member]) -> bool
-    ensures { result ≡ machine.has_name name.now (entries_view members.now) }
-{
-    for member in members {
-        if same_bytes(member.name.bytes(), name) {
-            return true;
-        }
-    }
-    false
+    ghost invariant = { λ o. IsCovering (all_names o.members o.waiting) o.index };
 }
 
 impl OpenObject {
@@ -54,6 +42,7 @@ impl OpenObject {
         OpenObject {
             members: Items::new(alloc),
             waiting: None,
+            index: None,
         }
     }
 
@@ -65,13 +54,16 @@ impl OpenObject {
     }
 
     /// Takes the name of the next member, and says whether it is new in the object.
-    pub fn name_next(&mut self, name: Text) -> Result<bool, AllocError>
+    pub fn name_next(&mut self, alloc: Global, name: Text) -> Result<bool, AllocError>
         requires { self.old.1 ≡ None }
         ensures { IfOk result (IsNamed self.old.0 name self.new) }
     {
-        if has_name(name.bytes(), self.members.as_slice()) {
+        let index = self.index.take();
+        let (is_new, index) = look_up(alloc, self.members.as_slice(), index, &name)?;
+        if !is_new {
             return Ok(false);
         }
+        self.index = index;
         self.waiting = Some(name);
         Ok(true)
     }
@@ -81,7 +73,13 @@ impl OpenObject {
         ensures { IfOk result (λ _. IsCompleted self.old value self.new) }
     {
         match self.waiting.take() {
-            Some(name) => self.members.push(Member { name, value }),
+            Some(name) => {
+                if let Err(error) = self.members.push(Member { name, value }) {
+                    self.index = None;
+                    return Err(error);
+                }
+                Ok(())
+            }
             None => Ok(()),
         }
     }
@@ -92,6 +90,7 @@ impl OpenObject {
         let OpenObject {
             members,
             waiting: _,
+            index: _,
         } = self;
         members
     }

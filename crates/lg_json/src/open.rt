@@ -160,6 +160,7 @@ fn next_after_comma(frames: &OpenFrames) -> Option<Next>
 
 /// What comes after a name in the innermost that is open.
 fn name_member(
+    alloc: Global,
     place: usize,
     quote: usize,
     frame: &mut Frame,
@@ -173,7 +174,7 @@ fn name_member(
             if object.is_waiting() {
                 return Err(JsonFault::Syntax { place });
             }
-            if object.name_next(name)? {
+            if object.name_next(alloc, name)? {
                 Ok(Next::Colon)
             } else {
                 Err(JsonFault::Repeated { place: quote })
@@ -184,6 +185,7 @@ fn name_member(
 
 /// What comes after a member's name, which was quoted from `quote` on and ended at `place`.
 pub fn with_name(
+    alloc: Global,
     place: usize,
     quote: usize,
     frames: &mut OpenFrames,
@@ -192,7 +194,7 @@ pub fn with_name(
     ensures { Gives (standing frames.new.items) result (machine.with_name place quote (frames_view frames.old.items) name) }
 {
     match frames.last_mut() {
-        Some(frame) => name_member(place, quote, frame, name),
+        Some(frame) => name_member(alloc, place, quote, frame, name),
         None => Err(JsonFault::Syntax { place }),
     }
 }

@@ -164,7 +164,7 @@ fn begin_name(
     ensures { Moves bytes.now place (machine.reads (place + 1) (machine.begin_name place (frames_view frames.old.items)) (drop (place + 1) bytes.now)) frames.new.items result }
 {
     let (name, quote) = read_text(alloc, bytes, place + 1)?;
-    at_place(with_name(quote, place, frames, name), quote + 1)
+    at_place(with_name(alloc, quote, place, frames, name), quote + 1)
 }
 
 /// A list's first item, or its end.

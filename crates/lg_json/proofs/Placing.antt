@@ -1,0 +1,225 @@
+-- An index of names, as one more name comes.
+use Rattle.std.proofs.Common.{◌≡◌, ◌≢◌, ◌⊎◌, inl, inr, ℕ, suc, ◌+◌, ◌-◌, ◌*◌, ◌%◌, ◌^◌, ◌<◌, ◌≤◌, Bool, true, false, ◌==◌, ◌||◌, cond, List, [], ◌∷◌, ◌++◌, length, map, drop, take, get_or, set, Option, Some, None, refl, sym, ap, ◌∙◌, subst, arith, length-append}
+use Rattle.std.proofs.Math.Seq.{get_or-append_seam}
+use Rattle.std.proofs.lemmas.List.{get_or_append_left, get_or-set_same, get_or-set_other, length-set, length-map, drop_more, drop_all, take_more}
+use Rattle.std.proofs.lemmas.List.Folds.{list_any-append}
+use Rattle.std.proofs.lemmas.Bool.{cases_eq, cond-false, ne_eqb, false_from_ne_true}
+use Rattle.std.proofs.lemmas.Slice.Eq.{bytes_eq-Decides}
+use Rattle.lg_json.specs.Places.{names_view, has, number_from, slot_of, place_of, slot_place, Comes, set_has, IsIndexed, IsAdded, IsLookedUp}
+use Rattle.lg_json.specs.Reading.{has_name}
+use Rattle.lg_json.specs.Tree.{entry}
+use Rattle.lg_json.specs.View.{entries_view}
+use Rattle.lg_json.specs.declared.json.Member.{Member}
+use Rattle.lg_json.specs.declared.index.NameIndex.{NameIndex}
+use Rattle.std.specs.Prelude.{bytes_eq, not}
+use Rattle.std.specs.Cmp.Lexicographic.{slice_cmp}
+use Rattle.std.specs.Ordering.{nat_cmp}
+use Rattle.std.specs.BTreeSet.{BTreeSet, Updates}
+use Rattle.std.proofs.lemmas.Map.Text.{is_eq-slice_cmp}
+
+or_false : (b : Bool) → (b || false) ≡ b
+or_false true = refl
+or_false false = refl
+
+pub has_push : (names : List (List ℕ)) (name q : List ℕ) → has q (names ++ name ∷ []) ≡ (has q names || bytes_eq name q)
+has_push names name q = list_any-append (λ n. bytes_eq n q) names (name ∷ []) ∙ ap (λ b. has q names || b) (or_false (bytes_eq name q))
+
+-- what is known with one more name
+abbrev pub Grows : (List ℕ → Bool) → (List ℕ → Bool) → List ℕ → Type 0
+Grows known grown name = (q : List ℕ) → grown q ≡ (known q || bytes_eq name q)
+
+grown_false : (known grown : List ℕ → Bool) (name q : List ℕ) → Grows known grown name → bytes_eq name q ≡ false → grown q ≡ known q
+grown_false known grown name q g e = g q ∙ ap (λ b. known q || b) e ∙ or_false (known q)
+
+grown_known : (known grown : List ℕ → Bool) (name q : List ℕ) → Grows known grown name → known q ≡ true → grown q ≡ true
+grown_known known grown name q g e = g q ∙ ap (λ b. b || bytes_eq name q) e
+
+equal_names : (name q : List ℕ) → bytes_eq name q ≡ true → name ≡ q
+equal_names name q e = (bytes_eq-Decides name q).0 e
+
+-- the name gets a place of its own
+pub new_place : (names : List (List ℕ)) (known grown : List ℕ → Bool) (f g : List ℕ → Option ℕ) (others : List ℕ → Bool) (name : List ℕ) → Comes known names f others → Grows known grown name
+    → ((q : List ℕ) → ((g q ≡ f q) × (bytes_eq name q ≡ false)) ⊎ ((g q ≡ Some (length names)) × (f q ≡ None))) → Comes grown (names ++ name ∷ []) g others
+new_place names known grown f g others name c up to = record { within = within; absent = absent; present = present; among = λ q e. grown_known known grown name q up (c.among q e) }
+  where
+    longer : length (names ++ name ∷ []) ≡ length names + 1
+    longer = length-append names (name ∷ [])
+
+    within : (q : List ℕ) (i : ℕ) → g q ≡ Some i → i < length (names ++ name ∷ [])
+    within q i e = go (to q)
+      where
+        go : ((g q ≡ f q) × (bytes_eq name q ≡ false)) ⊎ ((g q ≡ Some (length names)) × (f q ≡ None)) → i < length (names ++ name ∷ [])
+        go (inl p) = let old : i < length names = c.within q i (sym p.0 ∙ e) in omega (arith, longer)
+        go (inr p) = let same : i ≡ length names = cc in omega (arith, longer)
+
+    absent : (q : List ℕ) → g q ≡ None → grown q ≡ false
+    absent q e = go (to q)
+      where
+        go : ((g q ≡ f q) × (bytes_eq name q ≡ false)) ⊎ ((g q ≡ Some (length names)) × (f q ≡ None)) → grown q ≡ false
+        go (inl p) = grown_false known grown name q up p.1 ∙ c.absent q (sym p.0 ∙ e)
+        go (inr p) = absurd cc
+
+    present : (q : List ℕ) (i : ℕ) → g q ≡ Some i → grown q ≡ (bytes_eq (get_or (names ++ name ∷ []) i []) q || others q)
+    present q i e = go (to q)
+      where
+        none : f q ≡ None → others q ≡ false
+        none n = false_from_ne_true (others q) (λ t. let k : known q ≡ false = c.absent q n in let k2 : known q ≡ true = c.among q t in cc)
+
+        go : ((g q ≡ f q) × (bytes_eq name q ≡ false)) ⊎ ((g q ≡ Some (length names)) × (f q ≡ None)) → grown q ≡ (bytes_eq (get_or (names ++ name ∷ []) i []) q || others q)
+        go (inl p) =
+            let old : f q ≡ Some i = sym p.0 ∙ e in
+            grown_false known grown name q up p.1 ∙ c.present q i old ∙ ap (λ n. bytes_eq n q || others q) (sym (get_or_append_left names (name ∷ []) [] i (c.within q i old)))
+        go (inr p) =
+            let same : i ≡ length names = cc in
+            up q ∙ ap (λ b. b || bytes_eq name q) (c.absent q p.1) ∙ sym (or_false (bytes_eq name q)) ∙ ap (λ b. bytes_eq name q || b) (sym (none p.1))
+            ∙ ap (λ n. bytes_eq n q || others q) (sym (get_or-append_seam names name [] [])) ∙ ap (λ k. bytes_eq (get_or (names ++ name ∷ []) k []) q || others q) (sym same)
+
+-- the name is known
+pub same_name : (names : List (List ℕ)) (known grown : List ℕ → Bool) (f : List ℕ → Option ℕ) (others : List ℕ → Bool) (name : List ℕ) → Comes known names f others → Grows known grown name → known name ≡ true → Comes grown (names ++ name ∷ []) f others
+same_name names known grown f others name c up is =
+    record { within = λ q i e. let old : i < length names = c.within q i e in omega (arith, length-append names (name ∷ [])); absent = λ q e. same q ∙ c.absent q e; present = λ q i e. same q ∙ c.present q i e ∙ ap (λ n. bytes_eq n q || others q) (sym (get_or_append_left names (name ∷ []) [] i (c.within q i e))); among = λ q e. same q ∙ c.among q e }
+  where
+    same : (q : List ℕ) → grown q ≡ known q
+    same q = go (bytes_eq name q) refl
+      where
+        go : (b : Bool) → bytes_eq name q ≡ b → grown q ≡ known q
+        go true e = let k : known q ≡ true = ap known (sym (equal_names name q e)) ∙ is in grown_known known grown name q up k ∙ sym k
+        go false e = grown_false known grown name q up e
+
+-- the name finds another in its place
+pub other_name : (names : List (List ℕ)) (known grown : List ℕ → Bool) (f : List ℕ → Option ℕ) (others more : List ℕ → Bool) (name : List ℕ) (i : ℕ) → Comes known names f others → Grows known grown name → f name ≡ Some i
+    → ((q : List ℕ) → more q ≡ cond (bytes_eq name q) true (others q)) → Comes grown (names ++ name ∷ []) f more
+other_name names known grown f others more name i c up finds adds =
+    record { within = λ q j e. let old : j < length names = c.within q j e in omega (arith, length-append names (name ∷ [])); absent = absent; present = present; among = among }
+  where
+    absent : (q : List ℕ) → f q ≡ None → grown q ≡ false
+    absent q e =
+        let other : bytes_eq name q ≡ false = false_from_ne_true (bytes_eq name q) (λ t. let here : f q ≡ Some i = ap f (sym (equal_names name q t)) ∙ finds in cc) in
+        grown_false known grown name q up other ∙ c.absent q e
+
+    three : (a b o : Bool) → ((a || o) || b) ≡ (a || cond b true o)
+    three true b o = refl
+    three false true true = refl
+    three false true false = refl
+    three false false true = refl
+    three false false false = refl
+
+    present : (q : List ℕ) (j : ℕ) → f q ≡ Some j → grown q ≡ (bytes_eq (get_or (names ++ name ∷ []) j []) q || more q)
+    present q j e =
+        up q ∙ ap (λ b. b || bytes_eq name q) (c.present q j e) ∙ three (bytes_eq (get_or names j []) q) (bytes_eq name q) (others q)
+        ∙ ap (λ b. bytes_eq (get_or names j []) q || b) (sym (adds q)) ∙ ap (λ n. bytes_eq n q || more q) (sym (get_or_append_left names (name ∷ []) [] j (c.within q j e)))
+
+    among : (q : List ℕ) → more q ≡ true → grown q ≡ true
+    among q e = go (bytes_eq name q) refl
+      where
+        right : (b : Bool) → (b || true) ≡ true
+        right true = refl
+        right false = refl
+
+        go : (b : Bool) → bytes_eq name q ≡ b → grown q ≡ true
+        go true t = up q ∙ ap (λ b. known q || b) t ∙ right (known q)
+        go false t = grown_known known grown name q up (c.among q (ap (λ b. cond b true (others q)) (sym t) ∙ sym (adds q) ∙ e))
+
+-- the number of a name, byte by byte
+pub number_more : (name : List ℕ) (n i : ℕ) → i < length name → number_from n (drop i name) ≡ number_from (((n * 257) % 2 ^ 64 + get_or name i 0) % 2 ^ 64) (drop (i + 1) name)
+unfolding number_from
+number_more name n i h = ap (number_from n) (drop_more name i 0 h)
+
+pub number_done : (name : List ℕ) (n i : ℕ) → length name ≤ i → number_from n (drop i name) ≡ n
+unfolding number_from
+number_done name n i h = ap (number_from n) (drop_all i name h)
+
+-- the names of members
+pub has_members : (ms : List Member) (q : List ℕ) → has q (names_view ms) ≡ has_name q (entries_view ms)
+has_members [] q = refl
+has_members (m ∷ ms) q = ap (λ b. bytes_eq (entry m).0 q || b) (has_members ms q)
+
+-- a slot that was free is the name's
+pub slot_taken : (slots : List ℕ) (name : List ℕ) (n s : ℕ) → 0 < length slots → s ≡ slot_of name (length slots) → s < length slots → get_or slots s 0 ≡ 0 → (q : List ℕ)
+    → ((slot_place (set slots s (n + 1)) q ≡ slot_place slots q) × (bytes_eq name q ≡ false)) ⊎ ((slot_place (set slots s (n + 1)) q ≡ Some n) × (slot_place slots q ≡ None))
+slot_taken slots name n s some is within free q = go (cases_eq s (slot_of q (length slots)))
+  where
+    same_length : length (set slots s (n + 1)) ≡ length slots
+    same_length = length-set slots s (n + 1)
+
+    moved : slot_place (set slots s (n + 1)) q ≡ place_of (get_or (set slots s (n + 1)) (slot_of q (length slots)) 0)
+    moved = ap (λ k. place_of (get_or (set slots s (n + 1)) (slot_of q k) 0)) same_length
+
+    one_more : place_of (n + 1) ≡ Some n
+    one_more = cond-false (n + 1 == 0) None (Some (n + 1 - 1)) (ne_eqb (n + 1) 0 (λ e. omega arith)) ∙ ap Some (omega arith)
+
+    go : (s ≡ slot_of q (length slots)) ⊎ (s ≡ slot_of q (length slots) → ⊥) → ((slot_place (set slots s (n + 1)) q ≡ slot_place slots q) × (bytes_eq name q ≡ false)) ⊎ ((slot_place (set slots s (n + 1)) q ≡ Some n) × (slot_place slots q ≡ None))
+    go (inl e) =
+        inr
+        (moved ∙ ap (λ k. place_of (get_or (set slots s (n + 1)) k 0)) (sym e) ∙ ap place_of (get_or-set_same slots s (n + 1) 0 within) ∙ one_more,
+        ap (λ k. place_of (get_or slots k 0)) (sym e) ∙ ap place_of free)
+    go (inr d) =
+        inl
+        (moved ∙ ap place_of (get_or-set_other slots s (slot_of q (length slots)) (n + 1) 0 (λ e. d (sym e))),
+        false_from_ne_true (bytes_eq name q) (λ t. d (is ∙ ap (λ m. slot_of m (length slots)) (equal_names name q t))))
+
+-- the place of the name, where its slot is taken
+pub finds : (slots : List ℕ) (name : List ℕ) (s taken : ℕ) → s ≡ slot_of name (length slots) → taken ≡ get_or slots s 0 → (taken ≡ 0 → ⊥) → slot_place slots name ≡ Some (taken - 1)
+finds slots name s taken is e n =
+    ap (λ k. place_of (get_or slots k 0)) (sym is) ∙ ap place_of (sym e) ∙ cond-false (taken == 0) None (Some (taken - 1)) (ne_eqb taken 0 n)
+
+-- a free slot
+pub added_new : (names : List (List ℕ)) (name : List ℕ) (slots : List ℕ) (others : List ℕ → Bool) (s : ℕ) → Comes (λ q. has q names) names (slot_place slots) others → 0 < length slots → s ≡ slot_of name (length slots) → s < length slots → get_or slots s 0 ≡ 0
+    → (has name names ≡ false) × Comes (λ q. has q (names ++ name ∷ [])) (names ++ name ∷ []) (slot_place (set slots s (length names + 1))) others
+added_new names name slots others s c some is within free =
+    (c.absent name (ap (λ k. place_of (get_or slots k 0)) (sym is) ∙ ap place_of free),
+    new_place names (λ q. has q names) (λ q. has q (names ++ name ∷ [])) (slot_place slots) (slot_place (set slots s (length names + 1))) others name c (has_push names name) (slot_taken slots name (length names) s some is within free))
+
+-- the name stands in its slot
+pub added_known : (names : List (List ℕ)) (name : List ℕ) (place : List ℕ → Option ℕ) (others : List ℕ → Bool) (i : ℕ) → Comes (λ q. has q names) names place others → place name ≡ Some i → bytes_eq (get_or names i []) name ≡ true
+    → (has name names ≡ true) × Comes (λ q. has q (names ++ name ∷ [])) (names ++ name ∷ []) place others
+added_known names name place others i c at same =
+    let is : has name names ≡ true = c.present name i at ∙ ap (λ b. b || others name) same in
+    (is, same_name names (λ q. has q names) (λ q. has q (names ++ name ∷ [])) place others name c (has_push names name) is)
+
+-- another name stands there
+pub added_other : (names : List (List ℕ)) (name : List ℕ) (place : List ℕ → Option ℕ) (others more : List ℕ → Bool) (i : ℕ) → Comes (λ q. has q names) names place others → place name ≡ Some i → bytes_eq (get_or names i []) name ≡ false
+    → ((q : List ℕ) → more q ≡ cond (bytes_eq name q) true (others q)) → (has name names ≡ others name) × Comes (λ q. has q (names ++ name ∷ [])) (names ++ name ∷ []) place more
+added_other names name place others more i c at differs adds =
+    (c.present name i at ∙ ap (λ b. b || others name) differs,
+    other_name names (λ q. has q names) (λ q. has q (names ++ name ∷ [])) place others more name i c (has_push names name) at adds)
+
+-- a set of names with one more
+pub set_adds : (before after : BTreeSet (List ℕ)) (name : List ℕ) → Updates (slice_cmp nat_cmp) before after name true → (q : List ℕ) → set_has after q ≡ cond (bytes_eq name q) true (set_has before q)
+set_adds before after name u q = u.0 q ∙ ap (λ b. cond b true (set_has before q)) (is_eq-slice_cmp name q)
+
+pub is_added : (names : List (List ℕ)) (name : List ℕ) (index : NameIndex) (known is_new : Bool) → has name names ≡ known → is_new ≡ not known → IsIndexed (names ++ name ∷ []) index → IsAdded names name is_new index
+is_added names name index true is_new h e i = subst (λ b. IsAdded names name b index) (sym e) (h, i)
+is_added names name index false is_new h e i = subst (λ b. IsAdded names name b index) (sym e) (h, i)
+
+-- the members with one more
+pub names_push : (ms : List Member) (m : Member) → names_view (ms ++ m ∷ []) ≡ names_view ms ++ (entry m).0 ∷ []
+names_push [] m = refl
+names_push (k ∷ ms) m = ap (λ l. (entry k).0 ∷ l) (names_push ms m)
+
+pub added_indexed : (names : List (List ℕ)) (name : List ℕ) (is_new : Bool) (index : NameIndex) → IsAdded names name is_new index → IsIndexed (names ++ name ∷ []) index
+added_indexed names name true index a = a.1
+added_indexed names name false index a = a.1
+
+-- one member more of those that stand in the list
+pub names_more : (ms : List Member) (i : ℕ) (m : Member) (name : List ℕ) (is_new : Bool) (index : NameIndex) → i < length ms → m ≡ get_or ms i m → name ≡ (entry m).0 → IsAdded (names_view (take i ms)) name is_new index → IsIndexed (names_view (take (i + 1) ms)) index
+names_more ms i m name is_new index h e n a =
+    subst (λ l. IsIndexed l index)
+    (ap (λ k. names_view (take i ms) ++ k ∷ []) n ∙ sym (names_push (take i ms) m) ∙ ap (λ k. names_view (take i ms ++ k ∷ [])) e ∙ sym (ap names_view (take_more ms i m h)))
+    (added_indexed (names_view (take i ms)) name is_new index a)
+
+pub names_length : (ms : List Member) → length (names_view ms) ≡ length ms
+names_length ms = length-map ms (λ m. (entry m).0)
+
+pub looked_up : (names : List (List ℕ)) (name : List ℕ) (is_new : Bool) (index : NameIndex) → IsAdded names name is_new index → IsLookedUp names name is_new (Some index)
+looked_up names name true index a = a
+looked_up names name false index a = a.0
+
+-- what a look-up says of the members
+pub known_name : (ms seen : List Member) (name : List ℕ) (is_new : Bool) (index : Option NameIndex) → seen ≡ ms → is_new ≡ false → IsLookedUp (names_view seen) name is_new index → has_name name (entries_view ms) ≡ true
+known_name ms seen name is_new index same e l = sym (has_members ms name) ∙ ap (λ ns. has name (names_view ns)) (sym same) ∙ subst (λ b. IsLookedUp (names_view seen) name b index) e l
+
+pub new_name : (ms seen : List Member) (name : List ℕ) (is_new : Bool) (index : Option NameIndex) → seen ≡ ms → is_new ≡ true → IsLookedUp (names_view seen) name is_new index → has_name name (entries_view ms) ≡ false
+new_name ms seen name is_new index same e l =
+    let looked : IsLookedUp (names_view seen) name true index = subst (λ b. IsLookedUp (names_view seen) name b index) e l in
+    sym (has_members ms name) ∙ ap (λ ns. has name (names_view ns)) (sym same) ∙ looked.0

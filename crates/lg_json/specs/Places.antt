@@ -1,0 +1,69 @@
+-- An index of the names of an object's members.
+use Rattle.std.specs.Prelude.{◌≡◌, ℕ, ◌+◌, ◌-◌, ◌*◌, ◌%◌, ◌^◌, ◌<◌, Bool, true, false, ◌==◌, ◌||◌, if◌then◌else◌, List, [], ◌∷◌, ◌++◌, length, map, slice_index_or, bytes_eq, Option, Some, None}
+use Rattle.std.specs.List.{list_any}
+use Rattle.std.specs.Cmp.Lexicographic.{slice_cmp}
+use Rattle.std.specs.Ordering.{nat_cmp}
+use Rattle.std.specs.BTreeSet.{BTreeSet, contains}
+use Rattle.lg_json.specs.Tree.{entry}
+use Rattle.lg_json.specs.declared.json.Member.{Member}
+use Rattle.lg_json.specs.declared.index.NameIndex.{NameIndex}
+
+abbrev pub names_view : List Member → List (List ℕ)
+names_view ms = map (λ m. (entry m).0) ms
+
+-- the name is among the names
+abbrev pub has : List ℕ → List (List ℕ) → Bool
+has name names = list_any (λ n. bytes_eq n name) names
+
+-- the number that bytes write after the number n, of 64 bits
+unfoldable pub number_from : ℕ → List ℕ → ℕ
+number_from n [] = n
+number_from n (b ∷ bs) = number_from (((n * 257) % 2 ^ 64 + b) % 2 ^ 64) bs
+
+abbrev pub name_number : List ℕ → ℕ
+name_number name = number_from 0 name
+
+abbrev pub slot_of : List ℕ → ℕ → ℕ
+slot_of name count = name_number name % count
+
+-- a slot's place, where it is taken
+abbrev pub place_of : ℕ → Option ℕ
+place_of n = if n == 0 then None else Some (n - 1)
+
+-- the place that a name finds in its slot
+abbrev pub slot_place : List ℕ → List ℕ → Option ℕ
+slot_place slots name = place_of (slice_index_or slots (slot_of name (length slots)) 0)
+
+-- what `known` says of each name comes of one place, of which there may be none, and of what `others` says
+pub record Comes (known : List ℕ → Bool) (names : List (List ℕ)) (place : List ℕ → Option ℕ) (others : List ℕ → Bool) : Type 0 where
+  pub within : (name : List ℕ) (i : ℕ) → place name ≡ Some i → i < length names
+  pub absent : (name : List ℕ) → place name ≡ None → known name ≡ false
+  pub present : (name : List ℕ) (i : ℕ) → place name ≡ Some i → known name ≡ (bytes_eq (slice_index_or names i []) name || others name)
+  pub among : (name : List ℕ) → others name ≡ true → known name ≡ true
+
+abbrev pub set_has : BTreeSet (List ℕ) → List ℕ → Bool
+set_has set name = contains (slice_cmp nat_cmp) set name
+
+-- the index tells each of the names from every other name
+pub record IsIndexed (names : List (List ℕ)) (index : NameIndex) : Type 0 where
+  pub some : 0 < length index.slots.items
+  pub comes : Comes (λ name. has name names) names (slot_place index.slots.items) (set_has index.others)
+
+-- the index after one more name: whether it is new
+abbrev pub IsAdded : List (List ℕ) → List ℕ → Bool → NameIndex → Type 0
+IsAdded names name true index = (has name names ≡ false) × IsIndexed (names ++ name ∷ []) index
+IsAdded names name false index = (has name names ≡ true) × IsIndexed (names ++ name ∷ []) index
+
+-- an index of the names, where there is one
+abbrev pub IsCovering : List (List ℕ) → Option NameIndex → Type 0
+IsCovering names None = Unit {0}
+IsCovering names (Some index) = IsIndexed names index
+
+-- the names of an object's members, and the one whose value is to come
+abbrev pub all_names : List Member → Option (List ℕ) → List (List ℕ)
+all_names ms None = names_view ms
+all_names ms (Some name) = names_view ms ++ name ∷ []
+
+abbrev pub IsLookedUp : List (List ℕ) → List ℕ → Bool → Option NameIndex → Type 0
+IsLookedUp names name true index = (has name names ≡ false) × IsCovering (names ++ name ∷ []) index
+IsLookedUp names name false index = has name names ≡ true

@@ -1,0 +1,165 @@
+//! An index of the names of an object's members, by which a name is found among many.
+ghost use Rattle.std.specs.Prelude.{◌≡◌, [], ◌<◌, length, drop, slice_index_or, bytes_eq, IfOk};
+ghost use Rattle.lg_json.specs.Places as index;
+ghost use Rattle.lg_json.specs.Places.{IsIndexed, IsAdded, IsCovering, IsLookedUp, names_view, has};
+
+use crate::json::Member;
+use lg_containers::{Duplicate, Text};
+use std::alloc::{AllocError, Global};
+use std::collections::BTreeSet;
+
+/// Among fewer members a name is looked for one by one.
+const FEW: usize = 8;
+
+/// The least number of slots.
+const LEAST_SLOTS: usize = 64;
+
+/// How many slots there are for each member when an index is made.
+const SLOTS_A_MEMBER: usize = 8;
+
+/// Where the names of an object's members stand.
+#[derive(Drop)]
+pub struct NameIndex {
+    /// For each slot the number of members up to the one whose name has it; 0 where it is free.
+    slots: Vec<usize>,
+    /// The names that found another name in their slot.
+    others: BTreeSet<Text>,
+}
+
+/// A number that is mostly different for different names.
+fn name_number(name: &[u8]) -> u64
+    ensures { result ≡ index.name_number name.now }
+{
+    let mut number = 0u64;
+    for byte in name {
+        number = number.wrapping_mul(257).wrapping_add(*byte as u64);
+    }
+    number
+}
+
+/// The slot of a name among so many.
+fn slot_of(name: &[u8], count: usize) -> usize
+    requires { 0 < count }
+    ensures value { result ≡ index.slot_of name.now count }
+    ensures within { result < count }
+{
+    (name_number(name) % count as u64) as usize
+}
+
+/// Whether the member at the place has the name.
+fn is_named(members: &[Member], place: usize, name: &[u8]) -> bool
+    requires { place < length members.now }
+    ensures { result ≡ bytes_eq (slice_index_or (names_view members.now) place []) name.now }
+{
+    same_bytes(members[place].name.bytes(), name)
+}
+
+fn same_bytes(a: &[u8], b: &[u8]) -> bool
+    ensures { result ≡ bytes_eq a.now b.now }
+{
+    a == b
+}
+
+/// Whether a member has the name.
+fn has_name(name: &[u8], members: &[Member]) -> bool
+    ensures { result ≡ has name.now (names_view members.now) }
+{
+    for member in members {
+        if same_bytes(member.name.bytes(), name) {
+            return true;
+        }
+    }
+    false
+}
+
+impl NameIndex {
+    fn empty(alloc: Global, count: usize) -> Result<NameIndex, AllocError>
+        requires { 0 < count }
+        ensures { IfOk result (IsIndexed []) }
+    {
+        let mut slots = Vec::new(alloc);
+        slots.resize(count, 0)?;
+        Ok(NameIndex {
+            slots,
+            others: BTreeSet::new(alloc),
+        })
+    }
+
+    /// Whether one more member leaves most slots free.
+    fn has_room(&self, members: usize) -> bool {
+        members < self.slots.len() / 2
+    }
+
+    /// Adds the name of the member that comes next, and says whether it is new.
+    fn add(
+        &mut self,
+        alloc: Global,
+        members: &[Member],
+        name: &Text,
+    ) -> Result<bool, AllocError>
+        requires { IsIndexed (names_view members.now) self.old }
+        ensures { IfOk result (λ is_new. IsAdded (names_view members.now) name.now is_new self.new) }
+    {
+        let slot = slot_of(name.bytes(), self.slots.len());
+        let taken = self.slots[slot];
+        if taken == 0 {
+            self.slots[slot] = members.len() + 1;
+            return Ok(true);
+        }
+        if is_named(members, taken - 1, name.bytes()) {
+            return Ok(false);
+        }
+        let is_new = self.others.insert(name.copy(alloc)?)?;
+        Ok(is_new)
+    }
+}
+
+/// Whether the name is new among the names of the members, and the index with it.
+pub fn look_up(
+    alloc: Global,
+    members: &[Member],
+    index: Option<NameIndex>,
+    name: &Text,
+) -> Result<(bool, Option<NameIndex>), AllocError>
+    requires { IsCovering (names_view members.now) index }
+    ensures { IfOk result (λ p. IsLookedUp (names_view members.now) name.now p.0 p.1) }
+{
+    if members.len() < FEW {
+        return Ok((!has_name(name.bytes(), members), None));
+    }
+    let mut index = ready_index(alloc, members, index)?;
+    let is_new = index.add(alloc, members, name)?;
+    Ok((is_new, Some(index)))
+}
+
+/// The index, or one anew where there is none that has room for one more name.
+fn ready_index(
+    alloc: Global,
+    members: &[Member],
+    index: Option<NameIndex>,
+) -> Result<NameIndex, AllocError>
+    requires { IsCovering (names_view members.now) index }
+    ensures { IfOk result (IsIndexed (names_view members.now)) }
+{
+    match index {
+        Some(index) => {
+            if index.has_room(members.len()) {
+                return Ok(index);
+            }
+            index_names(alloc, members)
+        }
+        None => index_names(alloc, members),
+    }
+}
+
+/// An index of the names of the members.
+fn index_names(alloc: Global, members: &[Member]) -> Result<NameIndex, AllocError>
+    ensures { IfOk result (IsIndexed (names_view members.now)) }
+{
+    let count = members.len().saturating_mul(SLOTS_A_MEMBER).max(LEAST_SLOTS);
+    let mut index = NameIndex::empty(alloc, count)?;
+    for place in 0..members.len() {
+        let _ = index.add(alloc, &members[..place], &members[place].name)?;
+    }
+    Ok(index)
+}
