@@ -1,20 +1,21 @@
 -- An index of names, as one more name comes.
-use Rattle.std.proofs.Common.{◌≡◌, ◌≢◌, ◌⊎◌, inl, inr, ℕ, suc, ◌+◌, ◌-◌, ◌*◌, ◌%◌, ◌^◌, ◌<◌, ◌≤◌, Bool, true, false, ◌==◌, ◌||◌, cond, List, [], ◌∷◌, ◌++◌, length, map, drop, take, get_or, set, Option, Some, None, refl, sym, ap, ◌∙◌, subst, arith, length-append}
+use Rattle.std.proofs.Common.{◌≡◌, ◌≢◌, ◌⊎◌, inl, inr, ℕ, suc, ◌+◌, ◌-◌, ◌*◌, ◌%◌, ◌^◌, ◌<◌, ◌≤◌, Bool, true, false, ◌==◌, ◌||◌, cond, List, [], ◌∷◌, ◌++◌, length, map, drop, take, replicate, get_or, set, Option, Some, None, refl, sym, ap, ◌∙◌, subst, arith, length-append}
 use Rattle.std.proofs.Math.Seq.{get_or-append_seam}
-use Rattle.std.proofs.lemmas.List.{get_or_append_left, get_or-set_same, get_or-set_other, length-set, length-map, drop_more, drop_all, take_more}
+use Rattle.std.proofs.lemmas.List.{get_or_append_left, get_or-set_same, get_or-set_other, get_or-replicate, get_or_past, length-replicate, length-set, length-map, drop_more, drop_all, map_more, get_or-map}
 use Rattle.std.proofs.lemmas.List.Folds.{list_any-append}
-use Rattle.std.proofs.lemmas.Bool.{cases_eq, cond-false, ne_eqb, false_from_ne_true}
+use Rattle.std.proofs.lemmas.Bool.{cases_eq, cases_lt, cond-false, ne_eqb, false_from_ne_true}
 use Rattle.std.proofs.lemmas.Slice.Eq.{bytes_eq-Decides}
-use Rattle.lg_json.specs.Places.{names_view, has, number_from, slot_of, place_of, slot_place, Comes, set_has, IsIndexed, IsAdded, IsLookedUp}
+use Rattle.lg_json.specs.Places.{names_view, has, number_from, slot_of, place_of, slot_place, Comes, set_has, AreFree, IsIndexed, IsAdded}
 use Rattle.lg_json.specs.Reading.{has_name}
 use Rattle.lg_json.specs.Tree.{entry}
 use Rattle.lg_json.specs.View.{entries_view}
 use Rattle.lg_json.specs.declared.json.Member.{Member}
 use Rattle.lg_json.specs.declared.index.NameIndex.{NameIndex}
 use Rattle.std.specs.Prelude.{bytes_eq, not}
+use Rattle.std.specs.List.{list_any}
 use Rattle.std.specs.Cmp.Lexicographic.{slice_cmp}
-use Rattle.std.specs.Ordering.{nat_cmp}
-use Rattle.std.specs.BTreeSet.{BTreeSet, Updates}
+use Rattle.std.specs.Ordering.{nat_cmp, is_eq}
+use Rattle.std.specs.BTreeSet.{BTreeSet, Updates, IsEmpty}
 use Rattle.std.proofs.lemmas.Map.Text.{is_eq-slice_cmp}
 
 or_false : (b : Bool) → (b || false) ≡ b
@@ -121,7 +122,7 @@ other_name names known grown f others more name i c up finds adds =
         go false t = grown_known known grown name q up (c.among q (ap (λ b. cond b true (others q)) (sym t) ∙ sym (adds q) ∙ e))
 
 -- the number of a name, byte by byte
-pub number_more : (name : List ℕ) (n i : ℕ) → i < length name → number_from n (drop i name) ≡ number_from (((n * 257) % 2 ^ 64 + get_or name i 0) % 2 ^ 64) (drop (i + 1) name)
+pub number_more : (name : List ℕ) (n i : ℕ) → i < length name → number_from n (drop i name) ≡ number_from (((n * 1099511628211) % 2 ^ 64 + get_or name i 0) % 2 ^ 64) (drop (i + 1) name)
 unfolding number_from
 number_more name n i h = ap (number_from n) (drop_more name i 0 h)
 
@@ -164,25 +165,58 @@ finds slots name s taken is e n =
     ap (λ k. place_of (get_or slots k 0)) (sym is) ∙ ap place_of (sym e) ∙ cond-false (taken == 0) None (Some (taken - 1)) (ne_eqb taken 0 n)
 
 -- a free slot
-pub added_new : (names : List (List ℕ)) (name : List ℕ) (slots : List ℕ) (others : List ℕ → Bool) (s : ℕ) → Comes (λ q. has q names) names (slot_place slots) others → 0 < length slots → s ≡ slot_of name (length slots) → s < length slots → get_or slots s 0 ≡ 0
-    → (has name names ≡ false) × Comes (λ q. has q (names ++ name ∷ [])) (names ++ name ∷ []) (slot_place (set slots s (length names + 1))) others
-added_new names name slots others s c some is within free =
+pub added_new : (names : List (List ℕ)) (name : List ℕ) (slots : List ℕ) (known grown others : List ℕ → Bool) (s : ℕ) → Comes known names (slot_place slots) others → Grows known grown name → 0 < length slots → s ≡ slot_of name (length slots) → s < length slots → get_or slots s 0 ≡ 0
+    → (known name ≡ false) × Comes grown (names ++ name ∷ []) (slot_place (set slots s (length names + 1))) others
+added_new names name slots known grown others s c up some is within free =
     (c.absent name (ap (λ k. place_of (get_or slots k 0)) (sym is) ∙ ap place_of free),
-    new_place names (λ q. has q names) (λ q. has q (names ++ name ∷ [])) (slot_place slots) (slot_place (set slots s (length names + 1))) others name c (has_push names name) (slot_taken slots name (length names) s some is within free))
+    new_place names known grown (slot_place slots) (slot_place (set slots s (length names + 1))) others name c up (slot_taken slots name (length names) s some is within free))
 
 -- the name stands in its slot
-pub added_known : (names : List (List ℕ)) (name : List ℕ) (place : List ℕ → Option ℕ) (others : List ℕ → Bool) (i : ℕ) → Comes (λ q. has q names) names place others → place name ≡ Some i → bytes_eq (get_or names i []) name ≡ true
-    → (has name names ≡ true) × Comes (λ q. has q (names ++ name ∷ [])) (names ++ name ∷ []) place others
-added_known names name place others i c at same =
-    let is : has name names ≡ true = c.present name i at ∙ ap (λ b. b || others name) same in
-    (is, same_name names (λ q. has q names) (λ q. has q (names ++ name ∷ [])) place others name c (has_push names name) is)
+pub added_known : (names : List (List ℕ)) (name : List ℕ) (place : List ℕ → Option ℕ) (known grown others : List ℕ → Bool) (i : ℕ) → Comes known names place others → Grows known grown name → place name ≡ Some i → bytes_eq (get_or names i []) name ≡ true
+    → (known name ≡ true) × Comes grown (names ++ name ∷ []) place others
+added_known names name place known grown others i c up at same =
+    let is : known name ≡ true = c.present name i at ∙ ap (λ b. b || others name) same in
+    (is, same_name names known grown place others name c up is)
 
 -- another name stands there
-pub added_other : (names : List (List ℕ)) (name : List ℕ) (place : List ℕ → Option ℕ) (others more : List ℕ → Bool) (i : ℕ) → Comes (λ q. has q names) names place others → place name ≡ Some i → bytes_eq (get_or names i []) name ≡ false
-    → ((q : List ℕ) → more q ≡ cond (bytes_eq name q) true (others q)) → (has name names ≡ others name) × Comes (λ q. has q (names ++ name ∷ [])) (names ++ name ∷ []) place more
-added_other names name place others more i c at differs adds =
-    (c.present name i at ∙ ap (λ b. b || others name) differs,
-    other_name names (λ q. has q names) (λ q. has q (names ++ name ∷ [])) place others more name i c (has_push names name) at adds)
+pub added_other : (names : List (List ℕ)) (name : List ℕ) (place : List ℕ → Option ℕ) (known grown others more : List ℕ → Bool) (i : ℕ) → Comes known names place others → Grows known grown name → place name ≡ Some i → bytes_eq (get_or names i []) name ≡ false
+    → ((q : List ℕ) → more q ≡ cond (bytes_eq name q) true (others q)) → (known name ≡ others name) × Comes grown (names ++ name ∷ []) place more
+added_other names name place known grown others more i c up at differs adds =
+    (c.present name i at ∙ ap (λ b. b || others name) differs, other_name names known grown place others more name i c up at adds)
+
+-- a name that isn't of theirs
+pub longer_names : (names : List (List ℕ)) (name : List ℕ) (place : List ℕ → Option ℕ) (known others : List ℕ → Bool) → Comes known names place others → Comes known (names ++ name ∷ []) place others
+longer_names names name place known others c =
+    record { within = λ q i e. let old : i < length names = c.within q i e in omega (arith, length-append names (name ∷ [])); absent = c.absent; present = λ q i e. c.present q i e ∙ ap (λ n. bytes_eq n q || others q) (sym (get_or_append_left names (name ∷ []) [] i (c.within q i e))); among = c.among }
+
+pub not_not : (b : Bool) → not (not b) ≡ b
+not_not true = refl
+not_not false = refl
+
+pub or_cond : (a b : Bool) → (a || b) ≡ cond b true a
+or_cond true true = refl
+or_cond true false = refl
+or_cond false true = refl
+or_cond false false = refl
+
+-- slots that are all free
+pub zeros : (n i : ℕ) → ◌≡◌ {A = ℕ} (get_or (replicate n 0) i 0) 0
+zeros n i = go (cases_lt i n)
+  where
+    go : (i < n) ⊎ (n ≤ i) → ◌≡◌ {A = ℕ} (get_or (replicate n 0) i 0) 0
+    go (inl h) = get_or-replicate n i 0 0 h
+    go (inr h) = get_or_past (replicate n 0) i 0 (omega (arith, length-replicate {A = ℕ} n 0))
+
+pub no_names : (known others : List ℕ → Bool) (slots : List ℕ) → AreFree slots → ((q : List ℕ) → known q ≡ false) → ((q : List ℕ) → others q ≡ false) → Comes known [] (slot_place slots) others
+no_names known others slots free none no_others =
+    record { within = λ q i e. absurd (not_placed q i e); absent = λ q e. none q; present = λ q i e. absurd (not_placed q i e); among = λ q e. let f : others q ≡ false = no_others q in absurd cc }
+  where
+    not_placed : (q : List ℕ) (i : ℕ) → slot_place slots q ≡ Some i → ⊥
+    not_placed q i e = let f : slot_place slots q ≡ None = ap place_of (free (slot_of q (length slots))) in cc
+
+pub empty_index : (index : NameIndex) → AreFree index.first.items → AreFree index.second.items → 0 < length index.first.items → 0 < length index.second.items → IsEmpty index.others → IsIndexed [] index
+empty_index index a b p q none =
+    record { some = p; more = q; known = λ name. false; comes = no_names (λ name. has name []) (λ name. false) index.first.items a (λ name. refl) (λ name. refl); rest = no_names (λ name. false) (set_has index.others) index.second.items b (λ name. refl) (λ name. ap (λ ks. list_any (λ k. is_eq (slice_cmp nat_cmp name k)) ks) none) }
 
 -- a set of names with one more
 pub set_adds : (before after : BTreeSet (List ℕ)) (name : List ℕ) → Updates (slice_cmp nat_cmp) before after name true → (q : List ℕ) → set_has after q ≡ cond (bytes_eq name q) true (set_has before q)
@@ -202,24 +236,27 @@ added_indexed names name true index a = a.1
 added_indexed names name false index a = a.1
 
 -- one member more of those that stand in the list
-pub names_more : (ms : List Member) (i : ℕ) (m : Member) (name : List ℕ) (is_new : Bool) (index : NameIndex) → i < length ms → m ≡ get_or ms i m → name ≡ (entry m).0 → IsAdded (names_view (take i ms)) name is_new index → IsIndexed (names_view (take (i + 1) ms)) index
-names_more ms i m name is_new index h e n a =
+pub names_more : (ms : List Member) (i : ℕ) (name : List ℕ) (is_new : Bool) (index : NameIndex) → i < length ms → name ≡ get_or (names_view ms) i [] → IsAdded (names_view (take i ms)) name is_new index → IsIndexed (names_view (take (i + 1) ms)) index
+names_more [] i name is_new index h n a = absurd (omega arith)
+names_more (m ∷ ms) i name is_new index h n a =
+    let whole = m ∷ ms in
     subst (λ l. IsIndexed l index)
-    (ap (λ k. names_view (take i ms) ++ k ∷ []) n ∙ sym (names_push (take i ms) m) ∙ ap (λ k. names_view (take i ms ++ k ∷ [])) e ∙ sym (ap names_view (take_more ms i m h)))
-    (added_indexed (names_view (take i ms)) name is_new index a)
+    (ap (λ k. names_view (take i whole) ++ k ∷ []) (n ∙ get_or-map (λ k. (entry k).0) whole i m [] h) ∙ sym (map_more (λ k. (entry k).0) whole i m h))
+    (added_indexed (names_view (take i whole)) name is_new index a)
 
 pub names_length : (ms : List Member) → length (names_view ms) ≡ length ms
 names_length ms = length-map ms (λ m. (entry m).0)
 
-pub looked_up : (names : List (List ℕ)) (name : List ℕ) (is_new : Bool) (index : NameIndex) → IsAdded names name is_new index → IsLookedUp names name is_new (Some index)
-looked_up names name true index a = a
-looked_up names name false index a = a.0
-
 -- what a look-up says of the members
-pub known_name : (ms seen : List Member) (name : List ℕ) (is_new : Bool) (index : Option NameIndex) → seen ≡ ms → is_new ≡ false → IsLookedUp (names_view seen) name is_new index → has_name name (entries_view ms) ≡ true
-known_name ms seen name is_new index same e l = sym (has_members ms name) ∙ ap (λ ns. has name (names_view ns)) (sym same) ∙ subst (λ b. IsLookedUp (names_view seen) name b index) e l
+pub known_name : (ms seen : List Member) (name : List ℕ) (is_new : Bool) (index : NameIndex) → seen ≡ ms → is_new ≡ false → IsAdded (names_view seen) name is_new index → has_name name (entries_view ms) ≡ true
+known_name ms seen name is_new index same e l = sym (has_members ms name) ∙ ap (λ ns. has name (names_view ns)) (sym same) ∙ (subst (λ b. IsAdded (names_view seen) name b index) e l).0
 
-pub new_name : (ms seen : List Member) (name : List ℕ) (is_new : Bool) (index : Option NameIndex) → seen ≡ ms → is_new ≡ true → IsLookedUp (names_view seen) name is_new index → has_name name (entries_view ms) ≡ false
+pub new_name : (ms seen : List Member) (name : List ℕ) (is_new : Bool) (index : NameIndex) → seen ≡ ms → is_new ≡ true → IsAdded (names_view seen) name is_new index → has_name name (entries_view ms) ≡ false
 new_name ms seen name is_new index same e l =
-    let looked : IsLookedUp (names_view seen) name true index = subst (λ b. IsLookedUp (names_view seen) name b index) e l in
+    let looked : IsAdded (names_view seen) name true index = subst (λ b. IsAdded (names_view seen) name b index) e l in
     sym (has_members ms name) ∙ ap (λ ns. has name (names_view ns)) (sym same) ∙ looked.0
+
+-- what a reading of all members says
+pub scanned : (ms seen : List Member) (name bytes : List ℕ) (r b : Bool) → seen ≡ ms → bytes ≡ name → r ≡ has bytes (names_view seen) → r ≡ b → has_name name (entries_view ms) ≡ b
+scanned ms seen name bytes r b same equal is e =
+    sym (has_members ms name) ∙ ap (λ ns. has name (names_view ns)) (sym same) ∙ ap (λ n. has n (names_view seen)) (sym equal) ∙ sym is ∙ e

@@ -1,5 +1,5 @@
 -- An index of the names of an object's members.
-use Rattle.std.specs.Prelude.{◌≡◌, ℕ, ◌+◌, ◌-◌, ◌*◌, ◌%◌, ◌^◌, ◌<◌, Bool, true, false, ◌==◌, ◌||◌, if◌then◌else◌, List, [], ◌∷◌, ◌++◌, length, map, slice_index_or, bytes_eq, Option, Some, None}
+use Rattle.std.specs.Prelude.{◌≡◌, ℕ, ◌+◌, ◌-◌, ◌*◌, ◌%◌, ◌^◌, ◌<◌, Bool, true, false, ◌==◌, ◌||◌, not, if◌then◌else◌, List, [], ◌∷◌, ◌++◌, length, map, slice_index_or, bytes_eq, Option, Some, None}
 use Rattle.std.specs.List.{list_any}
 use Rattle.std.specs.Cmp.Lexicographic.{slice_cmp}
 use Rattle.std.specs.Ordering.{nat_cmp}
@@ -18,7 +18,7 @@ has name names = list_any (λ n. bytes_eq n name) names
 -- the number that bytes write after the number n, of 64 bits
 unfoldable pub number_from : ℕ → List ℕ → ℕ
 number_from n [] = n
-number_from n (b ∷ bs) = number_from (((n * 257) % 2 ^ 64 + b) % 2 ^ 64) bs
+number_from n (b ∷ bs) = number_from (((n * 1099511628211) % 2 ^ 64 + b) % 2 ^ 64) bs
 
 abbrev pub name_number : List ℕ → ℕ
 name_number name = number_from 0 name
@@ -44,10 +44,29 @@ pub record Comes (known : List ℕ → Bool) (names : List (List ℕ)) (place : 
 abbrev pub set_has : BTreeSet (List ℕ) → List ℕ → Bool
 set_has set name = contains (slice_cmp nat_cmp) set name
 
+-- slots and a set that tell some of the names from every other name
+abbrev pub IsFilled : List (List ℕ) → List ℕ → BTreeSet (List ℕ) → Type 0
+IsFilled names slots others = (0 < length slots) × (known : List ℕ → Bool) × Comes known names (slot_place slots) (set_has others)
+
+abbrev pub known_with : (List ℕ → Bool) → List ℕ → List ℕ → Bool
+known_with known name q = known q || bytes_eq name q
+
+-- the same after one more name of theirs: whether it is new among them
+abbrev pub Fills : List (List ℕ) → List ℕ → List ℕ → BTreeSet (List ℕ) → List ℕ → BTreeSet (List ℕ) → Bool → Type 0
+Fills names name slots others more_slots more_others is_new =
+    (0 < length more_slots) × ((known : List ℕ → Bool) → Comes known names (slot_place slots) (set_has others) → (known name ≡ not is_new) × Comes (known_with known name) (names ++ name ∷ []) (slot_place more_slots) (set_has more_others))
+
+-- no name has a slot
+abbrev pub AreFree : List ℕ → Type 0
+AreFree slots = (i : ℕ) → slice_index_or slots i 0 ≡ 0
+
 -- the index tells each of the names from every other name
 pub record IsIndexed (names : List (List ℕ)) (index : NameIndex) : Type 0 where
-  pub some : 0 < length index.slots.items
-  pub comes : Comes (λ name. has name names) names (slot_place index.slots.items) (set_has index.others)
+  pub some : 0 < length index.first.items
+  pub more : 0 < length index.second.items
+  pub known : List ℕ → Bool
+  pub comes : Comes (λ name. has name names) names (slot_place index.first.items) known
+  pub rest : Comes known names (slot_place index.second.items) (set_has index.others)
 
 -- the index after one more name: whether it is new
 abbrev pub IsAdded : List (List ℕ) → List ℕ → Bool → NameIndex → Type 0
@@ -63,7 +82,3 @@ IsCovering names (Some index) = IsIndexed names index
 abbrev pub all_names : List Member → Option (List ℕ) → List (List ℕ)
 all_names ms None = names_view ms
 all_names ms (Some name) = names_view ms ++ name ∷ []
-
-abbrev pub IsLookedUp : List (List ℕ) → List ℕ → Bool → Option NameIndex → Type 0
-IsLookedUp names name true index = (has name names ≡ false) × IsCovering (names ++ name ∷ []) index
-IsLookedUp names name false index = has name names ≡ true

@@ -1,7 +1,7 @@
 //! An index of the names of an object's members, by which a name is found among many.
 ghost use Rattle.std.specs.Prelude.{◌≡◌, [], ◌<◌, length, drop, slice_index_or, bytes_eq, IfOk};
 ghost use Rattle.lg_json.specs.Places as index;
-ghost use Rattle.lg_json.specs.Places.{IsIndexed, IsAdded, IsCovering, IsLookedUp, names_view, has};
+ghost use Rattle.lg_json.specs.Places.{IsIndexed, IsAdded, IsCovering, IsFilled, Fills, AreFree, names_view, has};
 
 use crate::json::Member;
 use lg_containers::{Duplicate, Text};
@@ -9,7 +9,7 @@ use std::alloc::{AllocError, Global};
 use std::collections::BTreeSet;
 
 /// Among fewer members a name is looked for one by one.
-const FEW: usize = 8;
+pub const FEW: usize = 8;
 
 /// The least number of slots.
 const LEAST_SLOTS: usize = 64;
@@ -17,12 +17,14 @@ const LEAST_SLOTS: usize = 64;
 /// How many slots there are for each member when an index is made.
 const SLOTS_A_MEMBER: usize = 8;
 
-/// Where the names of an object's members stand.
+/// Where the names of an object's members stand. A slot holds the number of members up to the one
+/// whose name has it, and 0 where it is free.
 #[derive(Drop)]
 pub struct NameIndex {
-    /// For each slot the number of members up to the one whose name has it; 0 where it is free.
-    slots: Vec<usize>,
-    /// The names that found another name in their slot.
+    first: Vec<usize>,
+    /// The slots of the names that found another name in their first.
+    second: Vec<usize>,
+    /// The names that found another name in both.
     others: BTreeSet<Text>,
 }
 
@@ -32,7 +34,7 @@ fn name_number(name: &[u8]) -> u64
 {
     let mut number = 0u64;
     for byte in name {
-        number = number.wrapping_mul(257).wrapping_add(*byte as u64);
+        number = number.wrapping_mul(0x100_0000_01B3).wrapping_add(*byte as u64);
     }
     number
 }
@@ -44,6 +46,14 @@ fn slot_of(name: &[u8], count: usize) -> usize
     ensures within { result < count }
 {
     (name_number(name) % count as u64) as usize
+}
+
+/// The name of the member at the place.
+fn name_at(members: &[Member], place: usize) -> &Text
+    requires { place < length members.now }
+    ensures { result.now ≡ slice_index_or (names_view members.now) place [] }
+{
+    &members[place].name
 }
 
 /// Whether the member at the place has the name.
@@ -61,7 +71,7 @@ fn same_bytes(a: &[u8], b: &[u8]) -> bool
 }
 
 /// Whether a member has the name.
-fn has_name(name: &[u8], members: &[Member]) -> bool
+pub fn has_name(name: &[u8], members: &[Member]) -> bool
     ensures { result ≡ has name.now (names_view members.now) }
 {
     for member in members {
@@ -72,22 +82,59 @@ fn has_name(name: &[u8], members: &[Member]) -> bool
     false
 }
 
+#[tactic(auto, using(crate::proofs::Placing::zeros))]
+fn free_slots(alloc: Global, count: usize) -> Result<Vec<usize>, AllocError>
+    requires { 0 < count }
+    ensures some { IfOk result (λ slots. 0 < length slots.items) }
+    ensures free { IfOk result (λ slots. AreFree slots.items) }
+{
+    let mut slots = Vec::new(alloc);
+    slots.resize(count, 0)?;
+    Ok(slots)
+}
+
+/// Adds the name of the member that comes next, whose first slot is that of another name, and says
+/// whether it is new.
+fn add_other(
+    alloc: Global,
+    members: &[Member],
+    slots: &mut Vec<usize>,
+    others: &mut BTreeSet<Text>,
+    name: &Text,
+) -> Result<bool, AllocError>
+    requires { IsFilled (names_view members.now) slots.old.items others.old }
+    ensures { IfOk result (λ is_new. Fills (names_view members.now) name.now slots.old.items others.old slots.new.items others.new is_new) }
+{
+    let slot = slot_of(name.bytes(), slots.len());
+    let taken = slots[slot];
+    if taken == 0 {
+        slots[slot] = members.len() + 1;
+        return Ok(true);
+    }
+    if is_named(members, taken - 1, name.bytes()) {
+        return Ok(false);
+    }
+    let is_new = others.insert(name.copy(alloc)?)?;
+    Ok(is_new)
+}
+
 impl NameIndex {
     fn empty(alloc: Global, count: usize) -> Result<NameIndex, AllocError>
         requires { 0 < count }
         ensures { IfOk result (IsIndexed []) }
     {
-        let mut slots = Vec::new(alloc);
-        slots.resize(count, 0)?;
+        let first = free_slots(alloc, count)?;
+        let second = free_slots(alloc, count / 2 + 1)?;
         Ok(NameIndex {
-            slots,
+            first,
+            second,
             others: BTreeSet::new(alloc),
         })
     }
 
     /// Whether one more member leaves most slots free.
     fn has_room(&self, members: usize) -> bool {
-        members < self.slots.len() / 2
+        members < self.first.len() / 2
     }
 
     /// Adds the name of the member that comes next, and says whether it is new.
@@ -100,16 +147,16 @@ impl NameIndex {
         requires { IsIndexed (names_view members.now) self.old }
         ensures { IfOk result (λ is_new. IsAdded (names_view members.now) name.now is_new self.new) }
     {
-        let slot = slot_of(name.bytes(), self.slots.len());
-        let taken = self.slots[slot];
+        let slot = slot_of(name.bytes(), self.first.len());
+        let taken = self.first[slot];
         if taken == 0 {
-            self.slots[slot] = members.len() + 1;
+            self.first[slot] = members.len() + 1;
             return Ok(true);
         }
         if is_named(members, taken - 1, name.bytes()) {
             return Ok(false);
         }
-        let is_new = self.others.insert(name.copy(alloc)?)?;
+        let is_new = add_other(alloc, members, &mut self.second, &mut self.others, name)?;
         Ok(is_new)
     }
 }
@@ -120,16 +167,13 @@ pub fn look_up(
     members: &[Member],
     index: Option<NameIndex>,
     name: &Text,
-) -> Result<(bool, Option<NameIndex>), AllocError>
+) -> Result<(bool, NameIndex), AllocError>
     requires { IsCovering (names_view members.now) index }
-    ensures { IfOk result (λ p. IsLookedUp (names_view members.now) name.now p.0 p.1) }
+    ensures { IfOk result (λ p. IsAdded (names_view members.now) name.now p.0 p.1) }
 {
-    if members.len() < FEW {
-        return Ok((!has_name(name.bytes(), members), None));
-    }
     let mut index = ready_index(alloc, members, index)?;
     let is_new = index.add(alloc, members, name)?;
-    Ok((is_new, Some(index)))
+    Ok((is_new, index))
 }
 
 /// The index, or one anew where there is none that has room for one more name.
@@ -159,7 +203,7 @@ fn index_names(alloc: Global, members: &[Member]) -> Result<NameIndex, AllocErro
     let count = members.len().saturating_mul(SLOTS_A_MEMBER).max(LEAST_SLOTS);
     let mut index = NameIndex::empty(alloc, count)?;
     for place in 0..members.len() {
-        let _ = index.add(alloc, &members[..place], &members[place].name)?;
+        let _ = index.add(alloc, &members[..place], name_at(members, place))?;
     }
     Ok(index)
 }

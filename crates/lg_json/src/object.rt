@@ -2,7 +2,7 @@
 ghost use Rattle.std.specs.Prelude.{◌≡◌, [], None, IfOk, IsSome, IsTrue, ◌↔◌};
 ghost use Rattle.lg_json.specs.View.{IsNamed, IsCompleted};
 
-use crate::index::{NameIndex, look_up};
+use crate::index::{FEW, NameIndex, has_name, look_up};
 use crate::json::{Json, Member};
 use lg_containers::Text;
 use sqlite_items::Items;
@@ -58,12 +58,28 @@ impl OpenObject {
         requires { self.old.1 ≡ None }
         ensures { IfOk result (IsNamed self.old.0 name self.new) }
     {
+        if self.members.len() < FEW {
+            if has_name(name.bytes(), self.members.as_slice()) {
+                return Ok(false);
+            }
+            self.index = None;
+            self.waiting = Some(name);
+            return Ok(true);
+        }
+        self.name_among_many(alloc, name)
+    }
+
+    /// The same by an index.
+    fn name_among_many(&mut self, alloc: Global, name: Text) -> Result<bool, AllocError>
+        requires { self.old.1 ≡ None }
+        ensures { IfOk result (IsNamed self.old.0 name self.new) }
+    {
         let index = self.index.take();
         let (is_new, index) = look_up(alloc, self.members.as_slice(), index, &name)?;
         if !is_new {
             return Ok(false);
         }
-        self.index = index;
+        self.index = Some(index);
         self.waiting = Some(name);
         Ok(true)
     }

@@ -1,15 +1,12 @@
-use Rattle.std.proofs.Common.{◌≡◌, List, true, false, Some, ap, ◌∙◌, rules}
-use Rattle.lg_json.specs.declared.json.Member.{Member}
-use Rattle.lg_json.proofs.Placing.{known_name, new_name}
+use Rattle.std.proofs.Common.{true, false, Some, ap, ◌∙◌}
+use Rattle.lg_json.proofs.Placing.{scanned}
 use Rattle.lg_json.proofs.object.OpenObject.name_next.Goals as goal
 
-pub returns-then-not-is_new : goal.returns-then-not-is_new
-returns-then-not-is_new c =
-    let e : c.in_ok-is_new.is_new ≡ false = search rules in
-    known_name c.args.self.now.0 c.as_slice.result.now c.args.name c.in_ok-is_new.is_new c.in_ok-is_new.index (c.as_slice.ensures ∙ ap (λ p. p.0) c.self.view_is) e c.in_ok-is_new.ensures
+pub returns-then-has_name : goal.returns-then-has_name
+returns-then-has_name c =
+    scanned c.args.self.now.0 c.as_slice.result.now c.args.name c.bytes.result.now c.has_name.result true (c.as_slice.ensures ∙ ap (λ p. p.0) c.self.view_is) c.bytes.ensures.value c.has_name.ensures c.if-has_name.true
 
-pub returns : goal.returns
-returns c =
-    let e : c.in_ok-is_new.is_new ≡ true = search rules in
-    (new_name c.args.self.now.0 c.as_slice.result.now c.args.name c.in_ok-is_new.is_new c.in_ok-is_new.index (c.as_slice.ensures ∙ ap (λ p. p.0) c.self.view_is) e c.in_ok-is_new.ensures,
+pub returns-then-len-lt-FEW : goal.returns-then-len-lt-FEW
+returns-then-len-lt-FEW c =
+    (scanned c.args.self.now.0 c.as_slice.result.now c.args.name c.bytes.result.now c.has_name.result false (c.as_slice.ensures ∙ ap (λ p. p.0) c.self.view_is) c.bytes.ensures.value c.has_name.ensures c.if-has_name.false,
     ap (λ p. (p.0, Some c.args.name)) c.self.view_is)
