@@ -31,7 +31,10 @@ fn lines(alloc: Global, input: &[u8]) -> Result<Vec<&[u8]>, AllocError> {
 
 /// How many of the texts have a value that is read.
 fn count_read(alloc: Global, texts: &[&[u8]]) -> usize {
-    texts.iter().filter(|text| read(alloc, text).is_ok()).count()
+    texts
+        .iter()
+        .filter(|text| read(alloc, text).is_ok())
+        .count()
 }
 
 /// Reads all texts some times, and says how many bytes were read in a second in the fastest round.
@@ -45,7 +48,10 @@ fn time_reading(rt: &HostRuntime, bytes: usize, texts: &[&[u8]]) -> io::Result<(
     }
     let nanoseconds = least.max(1);
     let speed = bytes as u128 * 1000 / nanoseconds;
-    eprintln!(rt; "{count} of {} texts, {bytes} bytes: {nanoseconds} ns, {speed} MB/s", texts.len())
+    eprintln!(rt;
+        "{count} of {} texts, {bytes} bytes: {nanoseconds} ns, {speed} MB/s",
+        texts.len()
+    )
 }
 
 /// Prints the value or the fault of each text.

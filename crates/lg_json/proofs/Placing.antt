@@ -1,5 +1,5 @@
 -- An index of names, as one more name comes.
-use Rattle.std.proofs.Common.{◌≡◌, ◌≢◌, ◌⊎◌, inl, inr, ℕ, suc, ◌+◌, ◌-◌, ◌*◌, ◌%◌, ◌^◌, ◌<◌, ◌≤◌, Bool, true, false, ◌==◌, ◌||◌, cond, List, [], ◌∷◌, ◌++◌, length, map, drop, take, replicate, get_or, set, Option, Some, None, refl, sym, ap, ◌∙◌, subst, arith, length-append}
+use Rattle.std.proofs.Common.{◌≡◌, ◌⊎◌, inl, inr, ℕ, ◌+◌, ◌-◌, ◌*◌, ◌%◌, ◌^◌, ◌<◌, ◌≤◌, Bool, true, false, ◌==◌, ◌||◌, cond, List, [], ◌∷◌, ◌++◌, length, drop, take, replicate, get_or, set, Option, Some, None, refl, sym, ap, ◌∙◌, subst, arith, length-append}
 use Rattle.std.proofs.Math.Seq.{get_or-append_seam}
 use Rattle.std.proofs.lemmas.List.{get_or_append_left, get_or-set_same, get_or-set_other, get_or-replicate, get_or_past, length-replicate, length-set, length-map, drop_more, drop_all, map_more, get_or-map}
 use Rattle.std.proofs.lemmas.List.Folds.{list_any-append}
@@ -151,13 +151,15 @@ slot_taken slots name n s some is within free q = go (cases_eq s (slot_of q (len
 
     go : (s ≡ slot_of q (length slots)) ⊎ (s ≡ slot_of q (length slots) → ⊥) → ((slot_place (set slots s (n + 1)) q ≡ slot_place slots q) × (bytes_eq name q ≡ false)) ⊎ ((slot_place (set slots s (n + 1)) q ≡ Some n) × (slot_place slots q ≡ None))
     go (inl e) =
-        inr
-        (moved ∙ ap (λ k. place_of (get_or (set slots s (n + 1)) k 0)) (sym e) ∙ ap place_of (get_or-set_same slots s (n + 1) 0 within) ∙ one_more,
-        ap (λ k. place_of (get_or slots k 0)) (sym e) ∙ ap place_of free)
+        inr (
+          moved ∙ ap (λ k. place_of (get_or (set slots s (n + 1)) k 0)) (sym e) ∙ ap place_of (get_or-set_same slots s (n + 1) 0 within) ∙ one_more,
+          ap (λ k. place_of (get_or slots k 0)) (sym e) ∙ ap place_of free,
+        )
     go (inr d) =
-        inl
-        (moved ∙ ap place_of (get_or-set_other slots s (slot_of q (length slots)) (n + 1) 0 (λ e. d (sym e))),
-        false_from_ne_true (bytes_eq name q) (λ t. d (is ∙ ap (λ m. slot_of m (length slots)) (equal_names name q t))))
+        inl (
+          moved ∙ ap place_of (get_or-set_other slots s (slot_of q (length slots)) (n + 1) 0 (λ e. d (sym e))),
+          false_from_ne_true (bytes_eq name q) (λ t. d (is ∙ ap (λ m. slot_of m (length slots)) (equal_names name q t))),
+        )
 
 -- the place of the name, where its slot is taken
 pub finds : (slots : List ℕ) (name : List ℕ) (s taken : ℕ) → s ≡ slot_of name (length slots) → taken ≡ get_or slots s 0 → (taken ≡ 0 → ⊥) → slot_place slots name ≡ Some (taken - 1)
@@ -167,9 +169,10 @@ finds slots name s taken is e n =
 -- a free slot
 pub added_new : (names : List (List ℕ)) (name : List ℕ) (slots : List ℕ) (known grown others : List ℕ → Bool) (s : ℕ) → Comes known names (slot_place slots) others → Grows known grown name → 0 < length slots → s ≡ slot_of name (length slots) → s < length slots → get_or slots s 0 ≡ 0
     → (known name ≡ false) × Comes grown (names ++ name ∷ []) (slot_place (set slots s (length names + 1))) others
-added_new names name slots known grown others s c up some is within free =
-    (c.absent name (ap (λ k. place_of (get_or slots k 0)) (sym is) ∙ ap place_of free),
-    new_place names known grown (slot_place slots) (slot_place (set slots s (length names + 1))) others name c up (slot_taken slots name (length names) s some is within free))
+added_new names name slots known grown others s c up some is within free = (
+  c.absent name (ap (λ k. place_of (get_or slots k 0)) (sym is) ∙ ap place_of free),
+  new_place names known grown (slot_place slots) (slot_place (set slots s (length names + 1))) others name c up (slot_taken slots name (length names) s some is within free),
+)
 
 -- the name stands in its slot
 pub added_known : (names : List (List ℕ)) (name : List ℕ) (place : List ℕ → Option ℕ) (known grown others : List ℕ → Bool) (i : ℕ) → Comes known names place others → Grows known grown name → place name ≡ Some i → bytes_eq (get_or names i []) name ≡ true

@@ -1,12 +1,12 @@
 -- What a step of the reader comes to.
-use Rattle.std.proofs.Common.{◌≡◌, ◌≢◌, ℕ, suc, ◌+◌, ◌<◌, ◌≤◌, true, false, ◌==◌, List, [], ◌∷◌, length, get_or, drop, slice_get, Some, None, Result, Ok, Err, refl, sym, ap, ◌∙◌, subst, inl, inr, arith}
+use Rattle.std.proofs.Common.{◌≡◌, ◌≢◌, ℕ, suc, ◌+◌, ◌<◌, ◌≤◌, true, false, ◌==◌, List, [], ◌∷◌, length, get_or, drop, Result, Ok, Err, refl, sym, ap, ◌∙◌, subst, inl, inr, arith}
 use Rattle.std.proofs.lemmas.List.{drop_more}
 use Rattle.std.proofs.lemmas.Bool.{cond-false, ne_eqb, false_from_ne_true}
 use Rattle.lg_json.specs.Tree.{Tree, tree, trees, entries}
 use Rattle.lg_json.specs.Tree.Tree.{text, list, members}
 use Rattle.lg_json.specs.Grammar.{IsDigit}
 use Rattle.lg_json.specs.Reading.{Frame, Mode, Role, State, at, is_blank, is_digit, complete, close_empty, open_frame, begin, begin_name, follow_on, with_name, step, finish, and_then, reads, reading}
-use Rattle.lg_json.specs.Reading.Frame.{in_list, in_object, named}
+use Rattle.lg_json.specs.Reading.Frame.{in_list, in_object}
 use Rattle.lg_json.specs.Reading.Mode.{before_value, before_first, before_first_name, before_name, before_colon, in_word, in_text, after_item, ended}
 use Rattle.lg_json.specs.View.{standing, frames_view, next_view, Gives, Fails, placed}
 use Rattle.lg_json.specs.Tokens.{Passes, Skips, TextEnds, Moves, IsNumberByte, IsOtherByte, begins}

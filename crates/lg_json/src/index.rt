@@ -15,7 +15,7 @@ pub const FEW: usize = 8;
 const LEAST_SLOTS: usize = 64;
 
 /// How many slots there are for each member when an index is made.
-const SLOTS_A_MEMBER: usize = 8;
+const SLOTS_A_MEMBER: usize = 4;
 
 /// Where the names of an object's members stand. A slot holds the number of members up to the one
 /// whose name has it, and 0 where it is free.
@@ -34,7 +34,9 @@ fn name_number(name: &[u8]) -> u64
 {
     let mut number = 0u64;
     for byte in name {
-        number = number.wrapping_mul(0x100_0000_01B3).wrapping_add(*byte as u64);
+        number = number
+            .wrapping_mul(0x100_0000_01B3)
+            .wrapping_add(*byte as u64);
     }
     number
 }
@@ -124,7 +126,7 @@ impl NameIndex {
         ensures { IfOk result (IsIndexed []) }
     {
         let first = free_slots(alloc, count)?;
-        let second = free_slots(alloc, count / 2 + 1)?;
+        let second = free_slots(alloc, count / 8 * 7 + 1)?;
         Ok(NameIndex {
             first,
             second,
@@ -132,18 +134,13 @@ impl NameIndex {
         })
     }
 
-    /// Whether one more member leaves most slots free.
+    /// Whether there are more first slots than members.
     fn has_room(&self, members: usize) -> bool {
-        members < self.first.len() / 2
+        members < self.first.len()
     }
 
     /// Adds the name of the member that comes next, and says whether it is new.
-    fn add(
-        &mut self,
-        alloc: Global,
-        members: &[Member],
-        name: &Text,
-    ) -> Result<bool, AllocError>
+    fn add(&mut self, alloc: Global, members: &[Member], name: &Text) -> Result<bool, AllocError>
         requires { IsIndexed (names_view members.now) self.old }
         ensures { IfOk result (λ is_new. IsAdded (names_view members.now) name.now is_new self.new) }
     {
@@ -200,7 +197,10 @@ fn ready_index(
 fn index_names(alloc: Global, members: &[Member]) -> Result<NameIndex, AllocError>
     ensures { IfOk result (IsIndexed (names_view members.now)) }
 {
-    let count = members.len().saturating_mul(SLOTS_A_MEMBER).max(LEAST_SLOTS);
+    let count = members
+        .len()
+        .saturating_mul(SLOTS_A_MEMBER)
+        .max(LEAST_SLOTS);
     let mut index = NameIndex::empty(alloc, count)?;
     for place in 0..members.len() {
         let _ = index.add(alloc, &members[..place], name_at(members, place))?;

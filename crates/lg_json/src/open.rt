@@ -106,12 +106,7 @@ fn closed(frame: Frame, byte: u8) -> Option<Json>
 }
 
 /// What comes after `]` or `}` at `place`, the end of a list or of an object.
-fn close(
-    alloc: Global,
-    place: usize,
-    frames: &mut OpenFrames,
-    byte: u8,
-) -> Result<Next, JsonFault>
+fn close(alloc: Global, place: usize, frames: &mut OpenFrames, byte: u8) -> Result<Next, JsonFault>
     requires { (byte ≡ 93) ⊎ (byte ≡ 125) }
     ensures { Gives (standing frames.new.items) result (machine.follow_on place (frames_view frames.old.items) byte) }
 {

@@ -9,8 +9,8 @@ ghost use Rattle.lg_containers.specs.declared.utf8.Utf8State.TheVariants.{Bounda
 
 use crate::json::{Json, JsonFault};
 use crate::number::read_number;
-use crate::open::{close_empty, complete, follow_on, open_frame, with_name};
 use crate::object::OpenObject;
+use crate::open::{close_empty, complete, follow_on, open_frame, with_name};
 use crate::state::{Frame, Next, OpenFrames};
 use crate::text::read_text;
 use crate::word::read_word;
@@ -229,7 +229,11 @@ fn step_name(
 
 /// The colon after a name.
 #[inline(always)]
-fn step_colon(bytes: &[u8], place: usize, frames: &mut OpenFrames) -> Result<(Next, usize), JsonFault>
+fn step_colon(
+    bytes: &[u8],
+    place: usize,
+    frames: &mut OpenFrames,
+) -> Result<(Next, usize), JsonFault>
     requires within { place < length bytes.now }
     requires no_blank { machine.is_blank (slice_index bytes.now place) ≡ false }
     ensures { Moves bytes.now place (machine.reads place (machine.at (frames_view frames.old.items) machine.Mode.before_colon) (drop place bytes.now)) frames.new.items result }

@@ -1,4 +1,4 @@
-use Rattle.std.proofs.Common.{◌≡◌, ◌<◌, ◌≤◌, ◌∙◌, length, sym, arith}
+use Rattle.std.proofs.Common.{◌<◌, ◌∙◌, length, sym, arith}
 use Rattle.lg_json.proofs.Placing.{number_more, number_done}
 use Rattle.lg_json.proofs.index.name_number.Goals as goal
 

@@ -11,6 +11,8 @@ pub returns : goal.returns
 returns c = is_done c.args.bytes.now c.steps.place c.steps.frames.items c.steps.next _ c.steps.invariant.0 c.steps-test.false (c.finish.ensures (frames_view c.steps.frames.items))
 
 pub steps-preserved : goal.steps-preserved
-steps-preserved c =
-    (goes_after c.args.bytes.now c.steps.place c.skip_blanks-place-in-steps.result c.steps.frames.items c.step.new.frames.items c.steps.next (c.in_ok-after.after, c.in_ok-after.end) c.steps.invariant.0
-    c.in_ok-after.ensures c.skip_blanks-place-in-steps.ensures.skips, c.skip_blanks-place-in-steps.ensures.stops)
+steps-preserved c = (
+  goes_after c.args.bytes.now c.steps.place c.skip_blanks-place-in-steps.result c.steps.frames.items c.step.new.frames.items c.steps.next (c.in_ok-after.after, c.in_ok-after.end) c.steps.invariant.0
+      c.in_ok-after.ensures c.skip_blanks-place-in-steps.ensures.skips,
+  c.skip_blanks-place-in-steps.ensures.stops,
+)

@@ -1,4 +1,4 @@
-use Rattle.std.proofs.Common.{◌≡◌, ◌+◌, ◌-◌, ◌<◌, ◌++◌, ◌∷◌, [], true, length, get_or, set, refl, sym, ap, ◌∙◌, subst, arith}
+use Rattle.std.proofs.Common.{◌≡◌, ◌+◌, ◌-◌, ◌<◌, ◌++◌, ◌∷◌, [], length, get_or, set, refl, sym, ap, ◌∙◌, subst, arith}
 use Rattle.std.specs.Prelude.{bytes_eq, not}
 use Rattle.std.proofs.lemmas.List.{get_or_read_under, length-set}
 use Rattle.lg_json.specs.Places.{names_view, has, slot_of, slot_place, known_with, Comes}
@@ -16,15 +16,16 @@ returns-then-taken-eq0 c =
     let within : slot < length slots = omega (arith, c.slot_of-slot.ensures.within, c.len.ensures, lengths) in
     let known = c.requires.known in
     let free : get_or slots slot 0 ≡ 0 = sym (get_or_read_under slots slot (length slots) c.index-taken.result.now 0 c.index-taken.ensures within refl) ∙ c.if-taken-eq0.true in
-    let added = added_new names name slots (λ q. has q names) (λ q. has q (names ++ name ∷ [])) known slot c.requires.comes (has_push names name) c.requires.some is within free in
-    (added.0,
-    record {
-      some = omega (arith, length-set slots slot (length c.args.members.now + 1), c.requires.some);
-      more = c.requires.more;
-      known = known;
-      comes = subst (λ k. Comes (λ q. has q (names ++ name ∷ [])) (names ++ name ∷ []) (slot_place (set slots slot (k + 1))) known) (names_length c.args.members.now) added.1;
-      rest = longer_names names name _ known _ c.requires.rest;
-    })
+    let added = added_new names name slots (λ q. has q names) (λ q. has q (names ++ name ∷ [])) known slot c.requires.comes (has_push names name) c.requires.some is within free in (
+      added.0,
+      record {
+        some = omega (arith, length-set slots slot (length c.args.members.now + 1), c.requires.some);
+        more = c.requires.more;
+        known = known;
+        comes = subst (λ k. Comes (λ q. has q (names ++ name ∷ [])) (names ++ name ∷ []) (slot_place (set slots slot (k + 1))) known) (names_length c.args.members.now) added.1;
+        rest = longer_names names name _ known _ c.requires.rest;
+      },
+    )
 
 pub returns-then-is_named : goal.returns-then-is_named
 returns-then-is_named c =
@@ -39,8 +40,8 @@ returns-then-is_named c =
     let taken = c.index-taken.result.now in
     let read : taken ≡ get_or slots slot 0 = get_or_read_under slots slot (length slots) taken 0 c.index-taken.ensures within refl in
     let added =
-        added_known names name (slot_place slots) (λ q. has q names) (λ q. has q (names ++ name ∷ [])) known (taken - 1) c.requires.comes (has_push names name) (finds slots name slot taken is read c.if-taken-eq0.false)
-        (ap (λ l. bytes_eq (get_or names (taken - 1) []) l) (sym c.bytes-2.ensures.value) ∙ sym c.is_named.ensures ∙ c.if-is_named.true) in
+    added_known names name (slot_place slots) (λ q. has q names) (λ q. has q (names ++ name ∷ [])) known (taken - 1) c.requires.comes (has_push names name) (finds slots name slot taken is read c.if-taken-eq0.false)
+    (ap (λ l. bytes_eq (get_or names (taken - 1) []) l) (sym c.bytes-2.ensures.value) ∙ sym c.is_named.ensures ∙ c.if-is_named.true) in
     (added.0, record { some = c.requires.some; more = c.requires.more; known = known; comes = added.1; rest = longer_names names name _ known _ c.requires.rest })
 
 pub returns : goal.returns
@@ -57,8 +58,8 @@ returns c =
     let read : taken ≡ get_or slots slot 0 = get_or_read_under slots slot (length slots) taken 0 c.index-taken.ensures within refl in
     let second = c.in_ok-is_new.ensures.1 known c.requires.rest in
     let added =
-        added_other names name (slot_place slots) (λ q. has q names) (λ q. has q (names ++ name ∷ [])) known (known_with known name) (taken - 1) c.requires.comes (has_push names name) (finds slots name slot taken is read c.if-taken-eq0.false)
-        (ap (λ l. bytes_eq (get_or names (taken - 1) []) l) (sym c.bytes-2.ensures.value) ∙ sym c.is_named.ensures ∙ c.if-is_named.false)
-        (λ q. or_cond (known q) (bytes_eq name q)) in
+    added_other names name (slot_place slots) (λ q. has q names) (λ q. has q (names ++ name ∷ [])) known (known_with known name) (taken - 1) c.requires.comes (has_push names name) (finds slots name slot taken is read c.if-taken-eq0.false)
+    (ap (λ l. bytes_eq (get_or names (taken - 1) []) l) (sym c.bytes-2.ensures.value) ∙ sym c.is_named.ensures ∙ c.if-is_named.false)
+    (λ q. or_cond (known q) (bytes_eq name q)) in
     is_added names name _ (not c.in_ok-is_new.is_new) c.in_ok-is_new.is_new (added.0 ∙ second.0) (sym (not_not c.in_ok-is_new.is_new))
     (record { some = c.requires.some; more = c.in_ok-is_new.ensures.0; known = known_with known name; comes = added.1; rest = second.1 })

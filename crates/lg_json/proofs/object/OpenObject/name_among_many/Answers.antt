@@ -1,5 +1,4 @@
-use Rattle.std.proofs.Common.{◌≡◌, List, true, false, Some, ap, ◌∙◌, rules}
-use Rattle.lg_json.specs.declared.json.Member.{Member}
+use Rattle.std.proofs.Common.{◌≡◌, true, false, Some, ap, ◌∙◌, rules}
 use Rattle.lg_json.proofs.Placing.{known_name, new_name}
 use Rattle.lg_json.proofs.object.OpenObject.name_among_many.Goals as goal
 
@@ -10,6 +9,7 @@ returns-then-not-is_new c =
 
 pub returns : goal.returns
 returns c =
-    let e : c.in_ok-is_new.is_new ≡ true = search rules in
-    (new_name c.args.self.now.0 c.as_slice.result.now c.args.name c.in_ok-is_new.is_new c.in_ok-is_new.index (c.as_slice.ensures ∙ ap (λ p. p.0) c.self.view_is) e c.in_ok-is_new.ensures,
-    ap (λ p. (p.0, Some c.args.name)) c.self.view_is)
+    let e : c.in_ok-is_new.is_new ≡ true = search rules in (
+      new_name c.args.self.now.0 c.as_slice.result.now c.args.name c.in_ok-is_new.is_new c.in_ok-is_new.index (c.as_slice.ensures ∙ ap (λ p. p.0) c.self.view_is) e c.in_ok-is_new.ensures,
+      ap (λ p. (p.0, Some c.args.name)) c.self.view_is,
+    )
