@@ -1,5 +1,5 @@
 -- What is found in accounts after a change of one of them.
-use Rattle.std.proofs.Common.{◌≡◌, ℕ, Bool, true, false, cond, ◌&&◌, List, [], Option, Some, None, IsSome, unwrap_or, Result, Ok, Err, OnOk, OnErr, Ordering, Less, Equal, Greater, refl, sym, ap, ap₂, subst, ◌∙◌}
+use Rattle.std.proofs.Common.{◌≡◌, ℕ, Bool, true, false, cond, ◌&&◌, List, Option, Some, None, IsSome, unwrap_or, Result, Ok, Err, OnOk, OnErr, Ordering, Less, Equal, Greater, refl, sym, ap, ap₂, subst, ◌∙◌}
 use Rattle.std.specs.Ordering.{is_eq, eq_by_cmp}
 use Rattle.std.specs.Cmp.{tied_itself}
 use Rattle.std.specs.Cmp.Lexicographic.{nat_list_cmp_total}
@@ -7,11 +7,10 @@ use Rattle.std.specs.Str.{bytes_eq}
 use Rattle.std.proofs.lemmas.Slice.Eq.{bytes_eq-Decides}
 use Rattle.lg_containers.specs.NameOrder.{name_order}
 use Rattle.lg_containers.specs.NameTable.{NameTable, get, insert, empty, get-insert, get-empty, name_order-same}
-use Rattle.lg_meta.specs.History.{History}
 use Rattle.lg_types.specs.declared.changes.MetaChange.{MetaChange}
 use Rattle.lg_shard.specs.declared.accounts.AccountPart.{AccountPart}
 use Rattle.lg_shard.specs.declared.reserved.Reserved.{Reserved}
-use Rattle.lg_shard.specs.Accounts.{no_history, with_prepared, slot_in, items_of, waiting_of, history_in, slot_at, items_at, waiting_at, history_at, is_pair, one_if, only_if, SameHoldings, SameRoom, SameHistories, SameSlots}
+use Rattle.lg_shard.specs.Accounts.{no_history, with_prepared, slot_in, items_of, history_in, slot_at, history_at, is_pair, SameHoldings}
 
 -- ---- the order of names and the equality of their bytes
 

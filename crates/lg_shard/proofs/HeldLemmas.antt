@@ -1,14 +1,13 @@
 -- What a shard keeps, from state to state.
-use Rattle.std.proofs.Common.{◌≡◌, ℕ, zero, suc, ◌+◌, ◌-◌, ◌<◌, ◌≤◌, Bool, true, false, cond, List, [], ◌∷◌, ◌++◌, length, get_or, take, drop, map, slice_get, Option, Some, None, IsSome, refl, sym, ap, ap₂, subst, ◌∙◌, append_assoc, length-append, arith}
+use Rattle.std.proofs.Common.{◌≡◌, ℕ, zero, suc, ◌+◌, ◌-◌, ◌<◌, ◌≤◌, Bool, true, false, cond, List, [], ◌∷◌, ◌++◌, length, get_or, take, drop, map, slice_get, Option, Some, None, IsSome, refl, sym, ap, subst, ◌∙◌, append_assoc, length-append, arith}
 use Rattle.std.specs.Option.{option_to_list}
-use Rattle.std.specs.List.{flat_map, filter, take-map, drop-map}
-use Rattle.std.proofs.lemmas.List.{append-nil, take_more, drop_more, take-append-le, drop-append-le, map-append, length-map, length-take, length-drop}
+use Rattle.std.specs.List.{filter, take-map, drop-map}
+use Rattle.std.proofs.lemmas.List.{append-nil, drop_more, take-append-le, drop-append-le, map-append, length-map, length-take, length-drop}
 use Rattle.std.proofs.lemmas.Grind.{flat_map-append}
 use Rattle.lg_containers.specs.NameTable.{NameTable, get, empty, get-empty}
 use Rattle.lg_types.specs.declared.records.Entry.{Entry}
 use Rattle.lg_types.specs.declared.records.Event.{Event}
 use Rattle.lg_types.specs.declared.records.Event.TheVariants.{Made, Logged}
-use Rattle.lg_types.specs.declared.records.KeyMark.{KeyMark}
 use Rattle.lg_types.specs.declared.records.Transaction.{Transaction}
 use Rattle.lg_types.specs.Known.{marking, referred_by, transaction_references}
 use Rattle.lg_types.specs.Lists.{Each}
@@ -20,11 +19,11 @@ use Rattle.lg_shard.specs.declared.ledgers.LedgerPart.{LedgerPart}
 use Rattle.lg_shard.specs.declared.names.Names.{Names}
 use Rattle.lg_shard.specs.Following.{Follows, AllFollow}
 use Rattle.lg_shard.specs.Held.{shown, all_shown, shares_done, shares_ahead, IsReadyEvent, IsReady, IsHeld, state_of}
-use Rattle.lg_shard.specs.Holdings.{Holding, no_holding, ledger_holding, own_holding, own_markings, own_references}
-use Rattle.lg_shard.specs.State.{PlacedEvent, StripeState, placed, placed_shares, all_shares}
+use Rattle.lg_shard.specs.Holdings.{Holding, no_holding, ledger_holding, own_holding, own_markings}
+use Rattle.lg_shard.specs.State.{PlacedEvent, StripeState, placed_shares, all_shares}
 use Rattle.lg_shard.specs.Accounts.{slot_in, items_of, items_at}
 use Rattle.lg_shard.specs.Shown.{account_moves, kept_under, used_under}
-use Rattle.lg_shard.specs.Ties.{accounts_of, keys_of, references_of, PartTied, LedgersTied, IsRoomFor, AreRoomFor, IsReadyFor}
+use Rattle.lg_shard.specs.Ties.{accounts_of, keys_of, references_of, PartTied, LedgersTied, AreRoomFor, IsReadyFor}
 use Rattle.lg_shard.proofs.QuietLemmas.{holding-joined, holding-logged}
 use Rattle.lg_shard.proofs.LedgerLemmas.{nothing_tied}
 
@@ -134,11 +133,11 @@ module _ (s : ℕ) (events : List KeptEvent) (applied : ℕ) (k : KeptEvent) (wi
   held-push old new held tied still ready follows = record {
     within = let n = length-append events (k ∷ []) in omega arith;
     tied = subst (λ (ps : List PlacedEvent). LedgersTied new (all_shares s ps) (shares_ahead s applied (all_shown (events ++ k ∷ [])))) (sym done-push)
-    (subst (λ (ps : List Share). LedgersTied new (shares_done s applied (all_shown events)) ps) (sym (ap (all_shares s) ahead-push ∙ shares-push (drop applied (all_shown events)) (shown k))) tied);
+        (subst (λ (ps : List Share). LedgersTied new (shares_done s applied (all_shown events)) ps) (sym (ap (all_shares s) ahead-push ∙ shares-push (drop applied (all_shown events)) (shown k))) tied);
     follows = subst (λ (ps : List PlacedEvent). AllFollow s (all_shares s ps) (drop applied (all_shown (events ++ k ∷ [])))) (sym done-push)
-    (subst (λ (ps : List PlacedEvent). AllFollow s (shares_done s applied (all_shown events)) ps) (sym ahead-push) (AllFollow-push s _ (drop applied (all_shown events)) (shown k) held.follows follows));
+        (subst (λ (ps : List PlacedEvent). AllFollow s (shares_done s applied (all_shown events)) ps) (sym ahead-push) (AllFollow-push s _ (drop applied (all_shown events)) (shown k) held.follows follows));
     ready = subst (λ (ks : List KeptEvent). Each (IsReady s new) ks) (sym (drop-append-le applied events (k ∷ []) within))
-    (ready_push s new (drop applied events) k (all_still s old new still (drop applied events) held.ready) ready);
+        (ready_push s new (drop applied events) k (all_still s old new still (drop applied events) held.ready) ready);
   }
 
   pub state-push : state_of s (events ++ k ∷ []) applied ≡ record { stripe = s; shares = shares_done s applied (all_shown events); prepared = drop applied (all_shown events) ++ shown k ∷ [] }
@@ -172,7 +171,7 @@ module _ (s : ℕ) (events : List KeptEvent) (applied : ℕ) where
   held-cut ledgers within tied = record {
     within = let n = length-take applied events in omega arith;
     tied = subst (λ (ps : List PlacedEvent). LedgersTied ledgers (all_shares s ps) (shares_ahead s applied (all_shown (take applied events)))) (sym done-cut)
-    (subst (λ (ps : List PlacedEvent). LedgersTied ledgers (shares_done s applied (all_shown events)) (all_shares s ps)) (sym ahead-cut) tied);
+        (subst (λ (ps : List PlacedEvent). LedgersTied ledgers (shares_done s applied (all_shown events)) (all_shares s ps)) (sym ahead-cut) tied);
     follows = subst (λ (ps : List PlacedEvent). AllFollow s (shares_done s applied (all_shown (take applied events))) ps) (sym ahead-cut) tt;
     ready = subst (λ (ks : List KeptEvent). Each (IsReady s ledgers) ks) (sym (drop_taken applied events)) tt;
   }
@@ -248,10 +247,10 @@ module _ (s : ℕ) (events : List KeptEvent) (applied : ℕ) (old : NameTable Le
     held-first after new same rest tied still = record {
       within = let lt = first-within in let m = length-map after shown in let n = length-map events shown in let e : length (all_shown after) ≡ length (all_shown events) = ap length same in omega arith;
       tied = subst (λ (ps : List PlacedEvent). LedgersTied new (shares_done s (applied + 1) ps) (shares_ahead s (applied + 1) ps)) (sym same)
-      (subst (λ (l : List Share). LedgersTied new l (shares_ahead s (applied + 1) (all_shown events))) (sym shares-first)
-      (tied p.place (shares_done s applied (all_shown events)) (shares_ahead s (applied + 1) (all_shown events)) tied_first));
+          (subst (λ (l : List Share). LedgersTied new l (shares_ahead s (applied + 1) (all_shown events))) (sym shares-first)
+          (tied p.place (shares_done s applied (all_shown events)) (shares_ahead s (applied + 1) (all_shown events)) tied_first));
       follows = subst (λ (ps : List PlacedEvent). AllFollow s (shares_done s (applied + 1) ps) (drop (applied + 1) ps)) (sym same)
-      (subst (λ (l : List Share). AllFollow s l (drop (applied + 1) (all_shown events))) (sym shares-first) follows_first.1);
+          (subst (λ (l : List Share). AllFollow s l (drop (applied + 1) (all_shown events))) (sym shares-first) follows_first.1);
       ready = subst (λ (ks : List KeptEvent). Each (IsReady s new) ks) (sym rest) (all_still s old new still (drop (applied + 1) events) ready_kept.1);
     }
 

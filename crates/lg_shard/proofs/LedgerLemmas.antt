@@ -1,5 +1,5 @@
 -- How the ties of all ledgers go from state to state.
-use Rattle.std.proofs.Common.{◌≡◌, ℕ, ◌≤◌, Bool, true, false, cond, List, [], ◌++◌, Option, Some, None, IsSome, unwrap_or, refl, sym, ap, subst, ◌∙◌, arith}
+use Rattle.std.proofs.Common.{◌≡◌, ℕ, Bool, true, false, cond, List, [], ◌++◌, Option, Some, None, IsSome, unwrap_or, refl, sym, ap, subst, ◌∙◌, arith}
 use Rattle.std.specs.Str.{bytes_eq}
 use Rattle.lg_containers.specs.NameTable.{NameTable, get, insert, empty, get-empty}
 use Rattle.lg_keys.specs.Contents.{Contents}
@@ -13,7 +13,7 @@ use Rattle.lg_shard.specs.Accounts.{slot_in, items_of}
 use Rattle.lg_shard.specs.Following.{Follows}
 use Rattle.lg_shard.specs.Holdings.{Holding, HoldingFollows, no_holding, joined, ledger_holding, own_holding}
 use Rattle.lg_shard.specs.Ties.{MovesTied, KeysTied, ReferencesTied, accounts_of, keys_of, references_of, PartTied, LedgersTied, IsRoomFor, AreRoomFor}
-use Rattle.lg_shard.proofs.AccountLemmas.{get-change, get-opened, bytes_same, bytes_itself, opened_there}
+use Rattle.lg_shard.proofs.AccountLemmas.{get-change, get-opened, bytes_same, bytes_itself}
 use Rattle.lg_shard.proofs.QuietLemmas.{holding-joined, joined-nothing, holding-logged}
 
 -- a part stands for the same as one with equal accounts and tables

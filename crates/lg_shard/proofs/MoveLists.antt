@@ -9,7 +9,7 @@ use Rattle.lg_types.specs.Moves.{Placed, what_of, is_of, out_move, in_move, post
 use Rattle.lg_types.specs.Parts.{has_move}
 use Rattle.lg_shard.specs.Accounts.{one_if, only_if}
 use Rattle.lg_shard.specs.Holdings.{MovesFollow}
-use Rattle.lg_shard.specs.Sides.{is_side, side_count, side_moves, posting_count, posting_items}
+use Rattle.lg_shard.specs.Sides.{is_side, side_moves, posting_count, posting_items}
 
 -- the first of moves that follow, and the others after them
 pub MovesFollow-split : (before xs ys : List Move) → MovesFollow before (xs ++ ys) → MovesFollow before xs × MovesFollow (before ++ xs) ys

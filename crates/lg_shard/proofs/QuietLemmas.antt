@@ -1,6 +1,6 @@
 -- What the shares of one more event hold of a ledger.
-use Rattle.std.proofs.Common.{◌≡◌, ℕ, ℤ, Bool, true, false, cond, ◌||◌, List, [], ◌∷◌, ◌++◌, map, Option, Some, None, refl, sym, ap, ap₂, ◌∙◌}
-use Rattle.std.specs.List.{flat_map, filter, list_any}
+use Rattle.std.proofs.Common.{◌≡◌, ℕ, ℤ, Bool, true, false, cond, ◌||◌, List, [], ◌∷◌, ◌++◌, map, Option, Some, None, refl, sym, ap, ◌∙◌}
+use Rattle.std.specs.List.{flat_map, list_any}
 use Rattle.std.specs.Str.{bytes_eq}
 use Rattle.std.proofs.lemmas.List.{append-nil}
 use Rattle.std.proofs.lemmas.List.Elements.{filter-append}
@@ -12,7 +12,7 @@ use Rattle.lg_types.specs.declared.records.Posting.{Posting}
 use Rattle.lg_types.specs.declared.records.Transaction.{Transaction}
 use Rattle.lg_types.specs.Known.{posting_accounts, transaction_accounts, own_accounts, entry_accounts, entry_keys, entry_references, marking}
 use Rattle.lg_types.specs.Moves.{posting_moves, transaction_moves, body_transaction, entry_moves}
-use Rattle.lg_types.specs.Parts.{Share, share, shares_of, touches, is_in, account_resource, key_resource, reference_resource, has_account, has_move, has_key, has_reference, is_share_of, shares_in, share_moves, share_markings, share_references, part_moves, part_markings, part_references}
+use Rattle.lg_types.specs.Parts.{Share, share, shares_of, touches, is_in, account_resource, key_resource, reference_resource, has_account, has_move, has_key, has_reference, is_share_of, shares_in, share_moves, share_markings, share_references}
 use Rattle.lg_types.proofs.StripeKnows.{filter-none, any-map}
 use Rattle.lg_shard.specs.Holdings.{Holding, no_holding, joined, ledger_holding, own_moves, own_markings, own_references, own_holding}
 

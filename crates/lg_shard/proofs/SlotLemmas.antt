@@ -1,5 +1,5 @@
 -- Maps whose values change in place.
-use Rattle.std.proofs.Common.{◌≡◌, ℕ, List, [], ◌∷◌, ◌++◌, length, get_or, set, insert as insert_at, IsTrue, IsSome, Some, None, Result, Ok, OnOk, OnErr, Bool, true, false, cond, Option, unwrap_or, refl, sym, ap, ap₂, subst, ◌∙◌}
+use Rattle.std.proofs.Common.{◌≡◌, ℕ, List, [], ◌∷◌, ◌++◌, length, get_or, set, insert as insert_at, IsTrue, IsSome, Some, None, Ok, Option, unwrap_or, refl, sym, ap, ap₂, ◌∙◌}
 use Rattle.std.proofs.Math.Seq.{get_or-append_seam}
 use Rattle.std.specs.FinMap.Entries.{find, put}
 use Rattle.lg_containers.specs.NameOrder.{name_order, is_in_order}

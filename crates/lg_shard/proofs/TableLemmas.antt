@@ -12,7 +12,7 @@ use Rattle.lg_types.specs.declared.classes.Class.TheVariants.{Key, Reference}
 use Rattle.lg_types.specs.declared.records.Entry.{Entry}
 use Rattle.lg_types.specs.declared.records.KeyMark.{KeyMark}
 use Rattle.lg_types.specs.declared.records.Transaction.{Transaction}
-use Rattle.lg_types.specs.Known.{Marking, Referred, marking, referred_by, is_marking_of, is_referred_as, transaction_of, transaction_references}
+use Rattle.lg_types.specs.Known.{Marking, Referred, marking, referred_by, transaction_of, transaction_references}
 use Rattle.lg_types.specs.Lists.{Each}
 use Rattle.lg_types.specs.Moves.{body_transaction}
 use Rattle.lg_types.specs.Parts.{has_key, has_reference}

@@ -1,7 +1,6 @@
 -- How the ties between indexes and shares go from state to state.
-use Rattle.std.proofs.Common.{◌≡◌, ℕ, ◌+◌, ◌-◌, ◌≤◌, ℤ, List, [], ◌∷◌, ◌++◌, length, map, sum_by, Option, Some, None, Result, Ok, Err, OnOk, OnErr, refl, sym, ap, ap₂, subst, ◌∙◌, arith, length-append}
+use Rattle.std.proofs.Common.{◌≡◌, ℕ, ◌+◌, List, [], ◌++◌, length, sum_by, Some, None, sym, ap, ◌∙◌, arith, length-append}
 use Rattle.std.specs.List.{flat_map, filter}
-use Rattle.std.proofs.lemmas.List.{append-nil, length-map, map-append}
 use Rattle.lg_containers.specs.NameTable.{NameTable}
 use Rattle.lg_types.specs.declared.records.Entry.{Entry}
 use Rattle.lg_types.specs.declared.records.Transaction.{Transaction}
@@ -9,9 +8,7 @@ use Rattle.lg_types.specs.Moves.{Placed, pair_moves, body_transaction, transacti
 use Rattle.lg_types.specs.Parts.{has_move}
 use Rattle.lg_types.proofs.MoveSums.{pair_moves-append}
 use Rattle.lg_shard.specs.declared.accounts.AccountPart.{AccountPart}
-use Rattle.lg_types.specs.declared.moves.Move.{Move}
-use Rattle.lg_shard.specs.Accounts.{items_at, waiting_at, SameHoldings, SameRoom, SameHistories}
-use Rattle.lg_shard.specs.Holdings.{MovesFollow}
+use Rattle.lg_shard.specs.Accounts.{items_at, waiting_at, SameHoldings, SameRoom}
 use Rattle.lg_shard.specs.Sides.{posting_count, posting_items}
 use Rattle.lg_shard.specs.Holdings.{own_moves}
 use Rattle.lg_shard.specs.Ties.{MovesTied}
@@ -57,8 +54,8 @@ module _ (old new : NameTable AccountPart) where
       → (done ahead : List Placed) → MovesTied old done (own ++ ahead) → MovesTied new (done ++ own) ahead
   moves-applied own items room done ahead tied = record {
     items = λ a b.
-      items a b
-      ∙ ap (λ l. l ++ pair_moves own a b) (tied.items a b)
-      ∙ sym (pair_moves-append done own a b);
+        items a b
+        ∙ ap (λ l. l ++ pair_moves own a b) (tied.items a b)
+        ∙ sym (pair_moves-append done own a b);
     room = λ a b. let h = tied.room a b in let e = room a b in let n = count-append own ahead a b in omega arith;
   }

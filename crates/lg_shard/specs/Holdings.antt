@@ -1,12 +1,11 @@
 -- What shares hold of one ledger, and when it may follow.
-use Rattle.std.specs.Prelude.{◌≡◌, ℕ, List, [], ◌∷◌, ◌++◌, map, Option, None}
-use Rattle.std.specs.Option.{option_map}
+use Rattle.std.specs.Prelude.{◌≡◌, ℕ, List, [], ◌∷◌, ◌++◌, map, None}
 use Rattle.std.specs.List.{filter, find}
 use Rattle.lg_base.specs.Volumes.{IsWithinLimit}
 use Rattle.lg_types.specs.declared.moves.Move.{Move}
 use Rattle.lg_moves.specs.Moves.{ComesNext}
 use Rattle.lg_types.specs.declared.records.Entry.{Entry}
-use Rattle.lg_types.specs.Known.{Marking, Referred, marking, entry_keys, entry_references, is_marking_of, is_referred_as, transaction_of}
+use Rattle.lg_types.specs.Known.{Marking, Referred, marking, entry_keys, entry_references, is_marking_of, is_referred_as}
 use Rattle.lg_types.specs.Lists.{Each}
 use Rattle.lg_types.specs.Moves.{Placed, pair_moves, entry_moves}
 use Rattle.lg_types.specs.Tally.{total_of}

@@ -1,7 +1,9 @@
+-- what callers see
 pub mod State
 pub mod Shown
 pub mod Holdings
 pub mod Following
+-- what is kept
 pub mod Accounts
 pub mod Sides
 pub mod Names

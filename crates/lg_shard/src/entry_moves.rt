@@ -103,7 +103,13 @@ fn release_posting(accounts: &mut Accounts, stripe: u8, ledger: &LedgerName, pos
     ensures room { (a b : List ℕ) → waiting_at accounts.new a b ≡ waiting_at accounts.old a b - posting_count stripe ledger.now a b posting.now }
 {
     release_side(accounts, stripe, ledger, &posting.source, &posting.asset);
-    release_side(accounts, stripe, ledger, &posting.destination, &posting.asset);
+    release_side(
+        accounts,
+        stripe,
+        ledger,
+        &posting.destination,
+        &posting.asset,
+    );
 }
 
 // The move of one side of a posting: its output, or its input where the amount comes in.
@@ -136,9 +142,25 @@ fn apply_posting<L: Ledger>(
 {
     let asset = &posting.asset;
     let outgoing = move_of(transaction, inserted, posting, false);
-    apply_side(accounts, stripe, ledger, &posting.source, asset, outgoing, steps);
+    apply_side(
+        accounts,
+        stripe,
+        ledger,
+        &posting.source,
+        asset,
+        outgoing,
+        steps,
+    );
     let incoming = move_of(transaction, inserted, posting, true);
-    apply_side(accounts, stripe, ledger, &posting.destination, asset, incoming, steps);
+    apply_side(
+        accounts,
+        stripe,
+        ledger,
+        &posting.destination,
+        asset,
+        incoming,
+        steps,
+    );
 }
 
 /// Makes room for the moves of the postings.
@@ -197,6 +219,14 @@ pub fn apply_postings<L: Ledger>(
     ensures histories { SameHistories accounts.old accounts.new }
 {
     for posting in postings {
-        apply_posting(accounts, stripe, ledger, transaction, inserted, posting, steps);
+        apply_posting(
+            accounts,
+            stripe,
+            ledger,
+            transaction,
+            inserted,
+            posting,
+            steps,
+        );
     }
 }

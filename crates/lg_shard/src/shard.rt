@@ -91,11 +91,7 @@ impl Shard {
     pub fn forget(&mut self)
         ensures { self.new ≡ record { stripe = self.old.stripe; shares = self.old.shares; prepared = [] } }
     {
-        release_events(
-            &mut self.ledgers,
-            self.stripe,
-            &self.events[self.applied..],
-        );
+        release_events(&mut self.ledgers, self.stripe, &self.events[self.applied..]);
         self.events.truncate(self.applied);
     }
 
@@ -117,12 +113,7 @@ impl Shard {
     }
 
     /// The index of the moves of an account and an asset of the ledger. It may have room besides.
-    pub fn index(
-        &self,
-        ledger: &LedgerName,
-        account: &Address,
-        asset: &Asset,
-    ) -> Option<&MoveIndex>
+    pub fn index(&self, ledger: &LedgerName, account: &Address, asset: &Asset) -> Option<&MoveIndex>
         ensures some { IfSome result (λ index. index.now.items ≡ account_moves self.now.shares ledger.now account.now asset.now) }
         ensures none { IsNone result ↔ (account_moves self.now.shares ledger.now account.now asset.now ≡ []) }
     {

@@ -1,4 +1,4 @@
-use Rattle.std.proofs.Common.{refl, ap, ◌∙◌}
+use Rattle.std.proofs.Common.{refl, ap}
 use Rattle.std.proofs.lemmas.Result.{on_ok_weaker}
 use Rattle.lg_shard.specs.Accounts.{slot_in, items_of, waiting_of, history_in}
 use Rattle.lg_shard.proofs.AccountLemmas.{part-opened, slot-empty, opened_there, slot_opened, assets-opened}
@@ -10,7 +10,7 @@ value_mut-part-requires c = opened_there _ _ c.args.account.now _ c.new.result c
 pub returns-clause-same : goal.returns-clause-same
 returns-clause-same c = record {
   items = λ a s. part-opened (λ o. items_of (slot_in o s)) _ c.args.account.now c.new.result _ _ _ _ c.in_ok-open.ensures.ok c.value_mut-part.ensures.value
-  (ap items_of (slot-empty _ s c.new.ensures.assets)) (assets-opened items_of c.open-2.result _ _ c.args.asset.now c.new-2.result c.open-2.ensures.ok c.open-2.ensures.err c.new-2.ensures.items s) a;
+      (ap items_of (slot-empty _ s c.new.ensures.assets)) (assets-opened items_of c.open-2.result _ _ c.args.asset.now c.new-2.result c.open-2.ensures.ok c.open-2.ensures.err c.new-2.ensures.items s) a;
   histories = λ a. part-opened history_in _ c.args.account.now c.new.result _ _ _ _ c.in_ok-open.ensures.ok c.value_mut-part.ensures.value c.new.ensures.history refl a;
 }
 

@@ -1,4 +1,4 @@
-use Rattle.std.proofs.Common.{refl, ap, ◌∙◌}
+use Rattle.std.proofs.Common.{refl}
 use Rattle.std.proofs.lemmas.Result.{on_ok_weaker, on_err_weaker}
 use Rattle.lg_shard.specs.Accounts.{slot_in, history_in}
 use Rattle.lg_shard.proofs.AccountLemmas.{part-opened, slot-empty, opened_there, history-prepared}

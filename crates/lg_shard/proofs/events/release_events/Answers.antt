@@ -1,5 +1,4 @@
 use Rattle.std.proofs.Common.{[]}
-use Rattle.lg_shard.proofs.LedgerLemmas.{ledgers-forgotten}
 use Rattle.lg_shard.proofs.events.release_events.Goals as goal
 
 pub loop-kept-preserved : goal.loop-kept-preserved
