@@ -1,5 +1,4 @@
 use Rattle.std.specs.Prelude.{is_some}
-use Rattle.std.specs.Sync.Mutex.{mutex_guard_value}
 use Rattle.std.proofs.Common.{◌≡◌, List, None, get_or, true, false, length, refl, sym, ap, ◌∙◌, arith}
 use Rattle.lg_types.specs.declared.marks.Marked.{Marked}
 use Rattle.lg_types.specs.Marked.{events_of}
