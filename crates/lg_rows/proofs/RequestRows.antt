@@ -1,14 +1,20 @@
 -- The worked examples of requests, each by its answers.
-use Rattle.std.proofs.Common.{◌≡◌, List, [], ◌∷◌, inl, inr, refl, Some, None, true, false}
+use Rattle.std.proofs.Common.{[], inl, refl, Some, None, false}
 use Rattle.std.specs.Prelude.{Ok, Err, codes}
 use Rattle.lg_containers.specs.CountedGrammar.{IsLedgerName}
-use Rattle.lg_json.specs.Tree.Trees.{none}
 use Rattle.lg_types.specs.declared.calls.Call.TheVariants as call
 use Rattle.lg_types.specs.declared.queries.Read.TheVariants as read
+use Rattle.lg_types.specs.declared.refusals.Refusal.{Refusal}
 use Rattle.lg_types.specs.declared.refusals.Refusal.TheVariants.{NoRoute, Method, NoPostings, Script}
-use Rattle.lg_views.specs.Paths.{top}
-use Rattle.lg_views.specs.Requests.{CreateCall, PlainRead, ValueBody}
+use Rattle.lg_views.specs.Answers.{Answer, Then}
 use Rattle.lg_rows.specs.RequestRows.{computed, no_postings, script, NowhereAsked, EmptyNameAsked, MethodAsked, NoPostingsAsked, ScriptAsked, StatsAsked, TwoOperators, NestedFault}
+
+-- a reading that gives a value and goes on, and one that refuses
+on : {A B : Type 0} {first : Answer A → Type 0} {next : A → Answer B → Type 0} {r : Answer B} (a : A) → first (Ok a) → next a r → Then first next r
+on a f n = record { answer = Ok a; is_first = f; goes_on = n }
+
+stops : {A B : Type 0} {first : Answer A → Type 0} {next : A → Answer B → Type 0} (refusal : Refusal) → first (Err refusal) → Then first next (Err refusal)
+stops refusal f = record { answer = Err refusal; is_first = f; goes_on = refl }
 
 pub nowhere : NowhereAsked
 unfolding computed
@@ -25,67 +31,12 @@ wrong_method = (Err Method, refl, refl)
 default_is_name : IsLedgerName (codes "default")
 default_is_name = refl
 
--- a creation up to its body
 pub no_postings_given : NoPostingsAsked
 unfolding computed
 no_postings_given = (
   Err NoPostings,
-  record {
-    answer = Ok (codes "default");
-    is_first = inl (default_is_name, refl);
-    goes_on =
-        record {
-          answer = Ok false;
-          is_first = refl;
-          goes_on =
-              record {
-                answer = Ok tt;
-                is_first = refl;
-                goes_on =
-                    record {
-                      answer = Ok tt;
-                      is_first = refl;
-                      goes_on =
-                          record {
-                            answer = Ok None;
-                            is_first = refl;
-                            goes_on =
-                                record {
-                                  answer = Ok no_postings;
-                                  is_first = refl;
-                                  goes_on =
-                                      record {
-                                        answer = Err NoPostings;
-                                        is_first =
-                                            record {
-                                              answer = Ok _;
-                                              is_first = refl;
-                                              goes_on =
-                                                  record {
-                                                    answer = Ok tt;
-                                                    is_first = refl;
-                                                    goes_on =
-                                                        record {
-                                                          answer = Err NoPostings;
-                                                          is_first =
-                                                              record {
-                                                                answer = Ok none;
-                                                                is_first = refl;
-                                                                goes_on =
-                                                                    record { answer = Ok []; is_first = refl; goes_on = refl };
-                                                              };
-                                                          goes_on = refl;
-                                                        };
-                                                  };
-                                            };
-                                        goes_on = refl;
-                                      };
-                                };
-                          };
-                    };
-              };
-        };
-  },
+  on (codes "default") (inl (default_is_name, refl)) (on false refl (on tt refl (on tt refl (on None refl (on no_postings refl
+      (stops NoPostings (on _ refl (on tt refl (stops NoPostings (on [] refl refl)))))))))),
   refl,
 )
 
@@ -93,47 +44,8 @@ pub script_given : ScriptAsked
 unfolding computed
 script_given = (
   Err Script,
-  record {
-    answer = Ok (codes "default");
-    is_first = inl (default_is_name, refl);
-    goes_on =
-        record {
-          answer = Ok false;
-          is_first = refl;
-          goes_on =
-              record {
-                answer = Ok tt;
-                is_first = refl;
-                goes_on =
-                    record {
-                      answer = Ok tt;
-                      is_first = refl;
-                      goes_on =
-                          record {
-                            answer = Ok None;
-                            is_first = refl;
-                            goes_on =
-                                record {
-                                  answer = Ok script;
-                                  is_first = refl;
-                                  goes_on =
-                                      record {
-                                        answer = Err Script;
-                                        is_first =
-                                            record {
-                                              answer = Ok _;
-                                              is_first = refl;
-                                              goes_on =
-                                                  record { answer = Err Script; is_first = refl; goes_on = refl };
-                                            };
-                                        goes_on = refl;
-                                      };
-                                };
-                          };
-                    };
-              };
-        };
-  },
+  on (codes "default") (inl (default_is_name, refl)) (on false refl (on tt refl (on tt refl (on None refl (on script refl
+      (stops Script (on _ refl (stops Script refl)))))))),
   refl,
 )
 
@@ -141,12 +53,7 @@ pub stats_asked : StatsAsked
 unfolding computed
 stats_asked = (
   Ok (call.Read (codes "default") read.Stats),
-  record {
-    answer = Ok (codes "default");
-    is_first = inl (default_is_name, refl);
-    goes_on =
-        record { answer = Ok tt; is_first = refl; goes_on = refl };
-  },
+  on (codes "default") (inl (default_is_name, refl)) (on tt refl refl),
   refl,
 )
 

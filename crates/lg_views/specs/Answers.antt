@@ -32,7 +32,7 @@ pub record Then {A B : Type 0} (first : Answer A → Type 0) (next : A → Answe
 
 infixl 10 ◌>>=◌
 abbrev pub ◌>>=◌ : {A B : Type 0} → (Answer A → Type 0) → (A → Answer B → Type 0) → Answer B → Type 0
-first >>= next = λ r. Then first next r
+first >>= next = Then first next
 
 -- the value where a fact holds of it, and else a refusal of its form
 abbrev pub IfForm : {A : Type 0} → Type 0 → Path → A → Answer A → Type 0

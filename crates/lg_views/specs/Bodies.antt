@@ -6,7 +6,7 @@ use Rattle.lg_containers.specs.AssetGrammar.{IsAsset}
 use Rattle.lg_containers.specs.CountedGrammar.{IsBucket}
 use Rattle.lg_containers.specs.ReferenceGrammar.{IsReference}
 use Rattle.lg_json.specs.Tree.{Tree, Trees, Members}
-use Rattle.lg_json.specs.Tree.Tree.{text, list, members}
+use Rattle.lg_json.specs.Tree.Tree.{null, text, list, members}
 use Rattle.lg_json.specs.Tree.Trees.{none, item}
 use Rattle.lg_json.specs.Tree.Members.{no_member, member}
 use Rattle.lg_types.specs.Changes.{MetaOf}
@@ -91,10 +91,6 @@ WithPostings path postings none = gives postings
 WithPostings path postings (item value more) =
     PostingOf (item_below path (codes "postings") (length postings)) value >>= (λ p. WithPostings path (postings ++ p ∷ []) more)
 
-abbrev pub items_of : Path → Tree → Answer Trees
-items_of path (list ts) = Ok ts
-items_of path _ = wrong path Kind
-
 -- ---- a transaction
 
 abbrev pub script_answer : Bool → Answer (Unit {0})
@@ -122,8 +118,8 @@ PostingsOfList path items = WithPostings path [] items >>= (λ postings. known (
 -- a list without items has no postings
 abbrev pub SomePostings : Path → Option Tree → Answer (List Posting) → Type 0
 SomePostings path None = known (Err NoPostings)
-SomePostings path (Some value) =
-    known (items_of (below path (codes "postings")) value) >>= PostingsOfList path
+SomePostings path (Some (list items)) = PostingsOfList path items
+SomePostings path (Some _) = known (wrong (below path (codes "postings")) Kind)
 
 abbrev pub CreationIn : Path → Members → Answer Write → Type 0
 CreationIn path ms =
@@ -168,9 +164,7 @@ LedgerIn ms =
     known (nothing_in (below top (codes "features")) (under (codes "features") ms)) >>= (λ _.
     gives (bucket, metadata))))
 
-abbrev pub LedgerWith : Option Tree → Answer (List ℕ × MetaOf) → Type 0
-LedgerWith None = gives (codes "_default", table.empty)
-LedgerWith (Some value) = known (members_of top (Some value)) >>= LedgerIn
-
 abbrev pub LedgerOf : Tree → Answer (List ℕ × MetaOf) → Type 0
-LedgerOf body = LedgerWith (present body)
+LedgerOf null = gives (codes "_default", table.empty)
+LedgerOf (members ms) = LedgerIn ms
+LedgerOf _ = known (wrong top Kind)

@@ -34,9 +34,15 @@ is_account_if path (Err refusal) = Err refusal
 abbrev pub is_account : Path → Option Tree → Answer Bool
 is_account path value = is_account_if path (text_of path value)
 
+abbrev pub AccountOf : Path → Option Tree → Answer Target → Type 0
+AccountOf path value = Name IsAddress path value >>= (λ address. gives (targets.Account address))
+
+abbrev pub TransactionOf : Path → Option Tree → Answer Target → Type 0
+TransactionOf path value = known (id_of path value) >>= (λ id. gives (targets.Transaction id))
+
 abbrev pub TargetOf : Path → Option Tree → Bool → Answer Target → Type 0
-TargetOf path value true = Name IsAddress path value >>= (λ address. gives (targets.Account address))
-TargetOf path value false = known (id_of path value) >>= (λ id. gives (targets.Transaction id))
+TargetOf path value true = AccountOf path value
+TargetOf path value false = TransactionOf path value
 
 abbrev pub TargetIn : Path → Members → Answer Target → Type 0
 TargetIn path ms =

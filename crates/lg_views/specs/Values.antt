@@ -1,8 +1,6 @@
 -- What one JSON value is read as.
 use Rattle.std.specs.Prelude.{◌≡◌, ℕ, ◌^◌, ℤ, pos, negsuc, nat_lt, Bool, true, false, if◌then◌else◌, List, [], ◌∷◌, Option, Some, None, Result, Ok, Err, MatchResult}
 use Rattle.std.specs.Str.{bytes_eq}
-use Rattle.base64.specs.GeneralPurpose.{encode_of}
-use Rattle.base64.specs.Engines.{standard}
 use Rattle.lg_json.specs.Tree.{Tree, Trees, Members}
 use Rattle.lg_json.specs.Tree.Tree.{null, truth, whole, part, text, list, members}
 use Rattle.lg_json.specs.Tree.Trees.{none, item}
@@ -82,15 +80,21 @@ SomeName Names path (b ∷ bs) = IfForm (Names (b ∷ bs)) path (b ∷ bs) >>= (
 
 abbrev pub OptionalName : (List ℕ → Type 0) → Path → Option Tree → Answer (Option (List ℕ)) → Type 0
 OptionalName Names path None = gives None
-OptionalName Names path (Some value) = known (text_of path (Some value)) >>= SomeName Names path
+OptionalName Names path (Some (text t)) = SomeName Names path t
+OptionalName Names path (Some _) = known (wrong path Kind)
 
 -- a moment (RFC 3339), in microseconds since 1970-01-01T00:00:00Z
 abbrev pub MomentText : Path → List ℕ → Answer ℤ → Type 0
 MomentText path t r = MatchResult r (IsMoment t) (λ refusal. (wrong {A = ℤ} path Form ≡ Err refusal) × ((moment : ℤ) → ¬ (IsMoment t moment)))
 
 abbrev pub Moment : Path → Option Tree → Answer ℤ → Type 0
-Moment path value = known (text_of path value) >>= MomentText path
+Moment path None = known (wrong path Missing)
+Moment path (Some (text t)) = MomentText path t
+Moment path (Some _) = known (wrong path Kind)
+
+abbrev pub SomeMoment : Path → Tree → Answer (Option ℤ) → Type 0
+SomeMoment path value = Moment path (Some value) >>= (λ moment. gives (Some moment))
 
 abbrev pub OptionalMoment : Path → Option Tree → Answer (Option ℤ) → Type 0
 OptionalMoment path None = gives None
-OptionalMoment path (Some value) = Moment path (Some value) >>= (λ moment. gives (Some moment))
+OptionalMoment path (Some value) = SomeMoment path value
