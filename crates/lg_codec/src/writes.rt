@@ -7,6 +7,7 @@ ghost use Rattle.lg_codec.specs.Results.{Reads};
 ghost use Rattle.lg_codec.specs.PathParts.{path_of};
 ghost use Rattle.lg_views.specs.Paths.{top, below};
 ghost use Rattle.lg_codec.specs.Seen.{value_seen, members_seen};
+ghost use Rattle.lg_codec.specs.Writes as asked;
 ghost use Rattle.lg_views.specs.Bodies as bodies;
 
 use crate::kind::WriteKind;
@@ -68,7 +69,7 @@ fn revert_of(
     at_effective_date: bool,
     body: &Json,
 ) -> Result<Write, CodecStop>
-    ensures { Reads (bodies.RevertWith id force at_effective_date (tree body.now)) result }
+    ensures { Reads (asked.RevertWith id force at_effective_date (tree body.now)) result }
 {
     check_revert(alloc, present(body))?;
     Ok(Write::Revert {
@@ -79,7 +80,7 @@ fn revert_of(
 }
 
 fn metadata_of(alloc: Global, target: Target, body: &Json) -> Result<Write, CodecStop>
-    ensures { Reads (bodies.MetadataFor target (tree body.now)) result }
+    ensures { Reads (asked.MetadataFor target (tree body.now)) result }
 {
     let metadata = texts_of(alloc, &Holder::Whole(Base::Body), present(body))?;
     Ok(Write::SetMeta { target, metadata })
@@ -87,7 +88,7 @@ fn metadata_of(alloc: Global, target: Target, body: &Json) -> Result<Write, Code
 
 /// The write that a body asks for; null is no body.
 pub fn write_of_json(alloc: Global, kind: WriteKind, body: &Json) -> Result<Write, CodecStop>
-    ensures { Reads (bodies.WriteOf kind (tree body.now)) result }
+    ensures { Reads (asked.WriteOf kind (tree body.now)) result }
 {
     match kind {
         WriteKind::Create => creation_of(alloc, Base::Body, present(body)),
