@@ -102,10 +102,11 @@ module _ (all : List Event) (count : ℕ) (pairs : Pairs) (h : IsBook all count 
         → IfSome (find_entry (log events name) id) (λ e. reply ≡ plain (first_reply (up_to (log events name) e) e))
     reply_is es same id reply facts =
         subst (λ l. IfSome (find_entry (log l name) id) (λ e. reply ≡ plain (first_reply (up_to (log l name) e) e))) view
-        (elim (reads_entry name count all x index sound id)
-          [ NoEntry none lacking ↦ subst (λ o. IfSome o (λ e. reply ≡ plain (first_reply (up_to (log (take count all) name) e) e))) (sym none) tt
+        (elim (reads_entry name count all x index sound id) [
+          | NoEntry none lacking ↦ subst (λ o. IfSome o (λ e. reply ≡ plain (first_reply (up_to (log (take count all) name) e) e))) (sym none) tt
           | AnEntry e r found kept at volumes number ↦
-            subst (λ o. IfSome o (λ e. reply ≡ plain (first_reply (up_to (log (take count all) name) e) e))) (sym found)
-            (let there : entry_there (slice_get es r.place) ≡ Some e = ap (λ l. entry_there (slice_get l r.place)) same ∙ at in
-            let own = subst (λ o. IfSome o (λ y. (g : List Entry) → r.volumes ≡ entry_volumes g y → reply ≡ plain (first_reply g y))) there (subst (λ o. IfSome o (λ r. IfSome (entry_there (slice_get es r.place)) (λ e. (g : List Entry) → r.volumes ≡ entry_volumes g e → reply ≡ plain (first_reply g e)))) kept facts) in
-            own (up_to (log (take count all) name) e) (volumes ∙ ap (λ n. entry_volumes (take n (log (take count all) name)) e) number)) ])
+              subst (λ o. IfSome o (λ e. reply ≡ plain (first_reply (up_to (log (take count all) name) e) e))) (sym found)
+              (let there : entry_there (slice_get es r.place) ≡ Some e = ap (λ l. entry_there (slice_get l r.place)) same ∙ at in
+              let own = subst (λ o. IfSome o (λ y. (g : List Entry) → r.volumes ≡ entry_volumes g y → reply ≡ plain (first_reply g y))) there (subst (λ o. IfSome o (λ r. IfSome (entry_there (slice_get es r.place)) (λ e. (g : List Entry) → r.volumes ≡ entry_volumes g e → reply ≡ plain (first_reply g e)))) kept facts) in
+              own (up_to (log (take count all) name) e) (volumes ∙ ap (λ n. entry_volumes (take n (log (take count all) name)) e) number))
+        ])

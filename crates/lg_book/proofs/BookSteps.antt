@@ -67,9 +67,10 @@ drop-next (suc k) (y ∷ xs) x h = drop-next k xs x h
 
 pub grown-snoc : (all : List Event) (event : Event) → IsGrown all → MayFollow all event → IsGrown (all ++ event ∷ [])
 grown-snoc all event h f = record {
-  each = λ k other is. elim (snoc_cases all event other k is)
-      [ inl old ↦ (let lt : k < length all = slice_get_within_length all k other old in let le : k ≤ length all = omega (arith, lt) in subst (λ es. MayFollow es other) (sym (take-append-le k all (event ∷ []) le)) (h.each k other old))
-      | inr new ↦ subst (λ es. MayFollow es other) (sym (ap (λ n. take n (all ++ event ∷ [])) new.0 ∙ take-append_seam all (event ∷ []))) (subst (MayFollow all) new.1 f) ];
+  each = λ k other is. elim (snoc_cases all event other k is) [
+    | inl old ↦ (let lt : k < length all = slice_get_within_length all k other old in let le : k ≤ length all = omega (arith, lt) in subst (λ es. MayFollow es other) (sym (take-append-le k all (event ∷ []) le)) (h.each k other old))
+    | inr new ↦ subst (λ es. MayFollow es other) (sym (ap (λ n. take n (all ++ event ∷ [])) new.0 ∙ take-append_seam all (event ∷ []))) (subst (MayFollow all) new.1 f)
+  ];
 }
 
 -- ---- where a ledger is made
@@ -154,16 +155,17 @@ module _ (all : List Event) (count : ℕ) (pairs : Pairs) (h : IsBook all count 
       within = (let le : count ≤ length all = h.within in let more : length (all ++ Logged name e ∷ []) ≡ length all + 1 = length-append all (Logged name e ∷ []) in omega (arith, le, more));
       grown = grown-snoc all (Logged name e) h.grown f;
       in_order = order-changed name (index_prepared (length all) e volumes) pairs h.in_order;
-      indexes = λ ledger. elim (same_or_not ledger name)
-          [ inl same ↦
+      indexes = λ ledger. elim (same_or_not ledger name) [
+        | inl same ↦
             subst (λ l. IsIndexed (ledger_part l count (all ++ Logged name e ∷ [])) (find name_order l (put_changed name (index_prepared (length all) e volumes) pairs))) (sym same)
             (subst (λ p. IsIndexed p (find name_order name (put_changed name (index_prepared (length all) e volumes) pairs))) (sym own_part)
             (changed_holds name (index_prepared (length all) e volumes) pairs (IsIndexed (ledger_part name count all)) (IsIndexed (part_with (ledger_part name count all) (length all) [] (e ∷ []))) (h.indexes name)
             (λ none. append-nil _ ∙ none)
             (λ x i. index_prepared_is (ledger_part name count all) x i (tied name count all) e (length all) volumes (whole_sound name) follows (is ∙ ap (λ g. entry_volumes (g ++ e ∷ []) e) (sym (whole_log name count all))))))
-          | inr other ↦
+        | inr other ↦
             subst (IsIndexed (ledger_part ledger count (all ++ Logged name e ∷ []))) (sym (find-changed-other name ledger (index_prepared (length all) e volumes) pairs other))
-            (subst (λ p. IsIndexed p (find name_order ledger pairs)) (sym (other_part ledger other)) (h.indexes ledger)) ];
+            (subst (λ p. IsIndexed p (find name_order ledger pairs)) (sym (other_part ledger other)) (h.indexes ledger))
+      ];
     }
 
   -- ---- a ledger is prepared
@@ -203,13 +205,14 @@ module _ (all : List Event) (count : ℕ) (pairs : Pairs) (h : IsBook all count 
       within = (let le : count ≤ length all = h.within in let more : length (all ++ Made info ∷ []) ≡ length all + 1 = length-append all (Made info ∷ []) in omega (arith, le, more));
       grown = grown-snoc all (Made info) h.grown absent;
       in_order = order-put info.name (new_index (length all)) pairs h.in_order;
-      indexes = λ ledger. elim (same_or_not ledger info.name)
-          [ inl same ↦
+      indexes = λ ledger. elim (same_or_not ledger info.name) [
+        | inl same ↦
             subst (λ l. IsIndexed (ledger_part l count (all ++ Made info ∷ [])) (find name_order l (put name_order info.name (new_index (length all)) pairs))) (sym same)
             (subst (IsIndexed (ledger_part info.name count (all ++ Made info ∷ []))) (sym (find-here info.name (new_index (length all)) pairs)) (subst (λ p. IsIndex p (new_index (length all))) (sym new_part) new_index_is))
-          | inr other ↦
+        | inr other ↦
             subst (IsIndexed (ledger_part ledger count (all ++ Made info ∷ []))) (sym (find-other info.name ledger (new_index (length all)) pairs other))
-            (subst (λ p. IsIndexed p (find name_order ledger pairs)) (sym (still_part ledger other)) (h.indexes ledger)) ];
+            (subst (λ p. IsIndexed p (find name_order ledger pairs)) (sym (still_part ledger other)) (h.indexes ledger))
+      ];
     }
 
   pub event_can_prepare : (event : Event) → MayFollow all event → CanPrepareEvent pairs event
@@ -276,16 +279,17 @@ module _ (all : List Event) (count : ℕ) (pairs : Pairs) (h : IsBook all count 
       within = next_within (Logged name e) next;
       grown = h.grown;
       in_order = order-changed name (index_added e) pairs h.in_order;
-      indexes = λ ledger. elim (same_or_not ledger name)
-          [ inl same ↦
+      indexes = λ ledger. elim (same_or_not ledger name) [
+        | inl same ↦
             subst (λ l. IsIndexed (ledger_part l (suc count) all) (find name_order l (put_changed name (index_added e) pairs))) (sym same)
             (subst (λ p. IsIndexed p (find name_order name (put_changed name (index_added e) pairs))) (sym entry_part)
             (changed_holds name (index_added e) pairs (IsIndexed (ledger_part name count all)) (IsIndexed (part_added (ledger_part name count all) (is_there (take count all) name) (log (take count all) name ++ e ∷ []) (log (drop (suc count) all) name))) (h.indexes name)
             (λ none. none)
             (λ x i. index_added_is (ledger_part name count all) (log (drop (suc count) all) name) e x entry_first i (tied name count all) (added_sound (Logged name e) next name) follows_added)))
-          | inr other ↦
+        | inr other ↦
             subst (IsIndexed (ledger_part ledger (suc count) all)) (sym (find-changed-other name ledger (index_added e) pairs other))
-            (subst (λ p. IsIndexed p (find name_order ledger pairs)) (sym (unmoved (Logged name e) next ledger refl (ap (λ b. cond b (e ∷ []) []) (bytes_differ name ledger (λ same. other (sym same)))))) (h.indexes ledger)) ];
+            (subst (λ p. IsIndexed p (find name_order ledger pairs)) (sym (unmoved (Logged name e) next ledger refl (ap (λ b. cond b (e ∷ []) []) (bytes_differ name ledger (λ same. other (sym same)))))) (h.indexes ledger))
+      ];
     }
 
   -- a ledger is added
@@ -315,14 +319,15 @@ module _ (all : List Event) (count : ℕ) (pairs : Pairs) (h : IsBook all count 
       within = next_within (Made info) next;
       grown = h.grown;
       in_order = order-changed info.name index_made pairs h.in_order;
-      indexes = λ ledger. elim (same_or_not ledger info.name)
-          [ inl same ↦
+      indexes = λ ledger. elim (same_or_not ledger info.name) [
+        | inl same ↦
             subst (λ l. IsIndexed (ledger_part l (suc count) all) (find name_order l (put_changed info.name index_made pairs))) (sym same)
             (subst (λ p. IsIndexed p (find name_order info.name (put_changed info.name index_made pairs))) (sym made_part)
             (changed_holds info.name index_made pairs (IsIndexed (ledger_part info.name count all)) (IsIndexed (record (ledger_part info.name count all) { there = true })) (h.indexes info.name) (λ none. none) index_made_is))
-          | inr other ↦
+        | inr other ↦
             subst (IsIndexed (ledger_part ledger (suc count) all)) (sym (find-changed-other info.name ledger index_made pairs other))
-            (subst (λ p. IsIndexed p (find name_order ledger pairs)) (sym (unmoved (Made info) next ledger (bytes_differ info.name ledger (λ same. other (sym same))) refl)) (h.indexes ledger)) ];
+            (subst (λ p. IsIndexed p (find name_order ledger pairs)) (sym (unmoved (Made info) next ledger (bytes_differ info.name ledger (λ same. other (sym same))) refl)) (h.indexes ledger))
+      ];
     }
 
   pub event_can_add : (event : Event) → slice_get all count ≡ Some event → CanAddEvent pairs event

@@ -14,6 +14,7 @@ use Rattle.lg_book.proofs.BookSteps.{take_all}
 pub entries_by_id : EntriesById
 entries_by_id events ledger k e h at =
     let sound : IsSound (log events ledger) = subst (λ es. IsSound (log es ledger)) (take_all events) (sound-take events h ledger (length events) (omega arith)) in
-    let id : e.id ≡ suc k = sound.ids k e at in
-    (id ∙ sym (add-one k),
-      ap (find_entry (log events ledger)) id ∙ find-by_id (λ (x : Entry). x.id) (log events ledger) sound.ids (suc k) ∙ at)
+    let id : e.id ≡ suc k = sound.ids k e at in (
+      id ∙ sym (add-one k),
+      ap (find_entry (log events ledger)) id ∙ find-by_id (λ (x : Entry). x.id) (log events ledger) sound.ids (suc k) ∙ at,
+    )

@@ -129,9 +129,10 @@ target_loosened added left e (Account name) ids rs k r h is = loosened added lef
 target_loosened added left e (TransactionOf id) ids rs k r h is =
     let x = changed_cases with_none_prepared (id - 1) rs k r is in
     let before = h x.0 x.1 in
-    elim x.2
-    [ inl here ↦ subst (LooseRecord added left (suc k)) (sym here.1) (record { reverted = before.reverted; changes = before.changes; none_left = λ none. refl })
-    | inr other ↦ subst (LooseRecord added left (suc k)) (sym other.1) (loosened added left e k x.0 (λ own. other.0 (let at : id ≡ suc k = some_same id (suc k) (sym ids ∙ own) in let n : k ≡ id - 1 = omega (arith, at) in n)) before) ]
+    elim x.2 [
+      | inl here ↦ subst (LooseRecord added left (suc k)) (sym here.1) (record { reverted = before.reverted; changes = before.changes; none_left = λ none. refl })
+      | inr other ↦ subst (LooseRecord added left (suc k)) (sym other.1) (loosened added left e k x.0 (λ own. other.0 (let at : id ≡ suc k = some_same id (suc k) (sym ids ∙ own) in let n : k ≡ id - 1 = omega (arith, at) in n)) before)
+    ]
 
 body_loosened : (added left : List Entry) (e : Entry) (body : EntryBody) → e.body ≡ body → IfSome (body_transaction body) (λ t. length (transactions added) < t.id) → (rs : List TransactionRecord) (k : ℕ) (r : TransactionRecord) → k < length (transactions added)
     → ((r : TransactionRecord) → slice_get rs k ≡ Some r → LooseRecord added (e ∷ left) (suc k) r) → slice_get (records_forgotten body rs) k ≡ Some r → LooseRecord added left (suc k) r
@@ -195,13 +196,14 @@ gone left making p o e none = subst (Forgetting left making p) (sym e) (Gone non
 
 made_given_up : (count : ℕ) (all rest : List Event) (info : _) (pairs : Pairs) → IsLate count all (Made info) → Facts (Made info ∷ rest) count all pairs → Facts rest count all (event_forgotten (Made info) pairs)
 made_given_up count all rest info pairs late h ledger =
-    elim (same_or_not ledger info.name)
-    [ inl same ↦
-      gone (log rest ledger) (is_there rest ledger) (kept_part ledger count all) _ (ap (λ l. find name_order l (event_forgotten (Made info) pairs)) same ∙ find-taken_here info.name pairs)
-      (no_made ledger 0 (take count all) (ap (is_there (take count all)) same ∙ late))
-    | inr other ↦
-      subst (Forgetting (log rest ledger) (is_there rest ledger) (kept_part ledger count all)) (sym (find-taken_other info.name ledger pairs other))
-      (same_state _ _ _ _ (kept_part ledger count all) (find name_order ledger pairs) refl (ap (λ b. b || is_there rest ledger) (bytes_differ info.name ledger (λ same. other (sym same)))) (h ledger)) ]
+    elim (same_or_not ledger info.name) [
+      | inl same ↦
+          gone (log rest ledger) (is_there rest ledger) (kept_part ledger count all) _ (ap (λ l. find name_order l (event_forgotten (Made info) pairs)) same ∙ find-taken_here info.name pairs)
+          (no_made ledger 0 (take count all) (ap (is_there (take count all)) same ∙ late))
+      | inr other ↦
+          subst (Forgetting (log rest ledger) (is_there rest ledger) (kept_part ledger count all)) (sym (find-taken_other info.name ledger pairs other))
+          (same_state _ _ _ _ (kept_part ledger count all) (find name_order ledger pairs) refl (ap (λ b. b || is_there rest ledger) (bytes_differ info.name ledger (λ same. other (sym same)))) (h ledger))
+    ]
 
 entry_state : (left : List Entry) (making : Bool) (p : LedgerPart) (e : Entry) (x : LedgerView) → IfSome (body_transaction e.body) (λ t. length (transactions p.added) < t.id) → Forgetting (e ∷ left) making p (Some x) → Forgetting left making p (Some (index_forgotten e.body x))
 entry_state left making p e x later (Going _ is none) = Going (index_forgotten e.body x) is none
@@ -212,16 +214,17 @@ none_state left more making p (Gone none) = Gone none
 
 entry_given_up : (count : ℕ) (all rest : List Event) (name : List ℕ) (e : Entry) (pairs : Pairs) → IsLate count all (Logged name e) → Facts (Logged name e ∷ rest) count all pairs → Facts rest count all (event_forgotten (Logged name e) pairs)
 entry_given_up count all rest name e pairs late h ledger =
-    elim (same_or_not ledger name)
-    [ inl same ↦
-      subst (λ l. Forgetting (log rest l) (is_there rest l) (kept_part l count all) (find name_order l (event_forgotten (Logged name e) pairs))) (sym same)
-      (changed_holds name (index_forgotten e.body) pairs (Forgetting (e ∷ log rest name) (is_there rest name) (kept_part name count all)) (Forgetting (log rest name) (is_there rest name) (kept_part name count all))
-      (same_state _ _ _ _ (kept_part name count all) (find name_order name pairs) (ap (λ b. cond b (e ∷ []) [] ++ log rest name) (same_bytes name)) refl (h name))
-      (none_state _ _ _ _)
-      (λ x. entry_state (log rest name) (is_there rest name) (kept_part name count all) e x (subst (λ g. IfSome (body_transaction e.body) (λ t. length (transactions g) < t.id)) (sym (kept_added name count all)) late)))
-    | inr other ↦
-      subst (Forgetting (log rest ledger) (is_there rest ledger) (kept_part ledger count all)) (sym (find-changed-other name ledger (index_forgotten e.body) pairs other))
-      (same_state _ _ _ _ (kept_part ledger count all) (find name_order ledger pairs) (ap (λ b. cond b (e ∷ []) [] ++ log rest ledger) (bytes_differ name ledger (λ same. other (sym same)))) refl (h ledger)) ]
+    elim (same_or_not ledger name) [
+      | inl same ↦
+          subst (λ l. Forgetting (log rest l) (is_there rest l) (kept_part l count all) (find name_order l (event_forgotten (Logged name e) pairs))) (sym same)
+          (changed_holds name (index_forgotten e.body) pairs (Forgetting (e ∷ log rest name) (is_there rest name) (kept_part name count all)) (Forgetting (log rest name) (is_there rest name) (kept_part name count all))
+          (same_state _ _ _ _ (kept_part name count all) (find name_order name pairs) (ap (λ b. cond b (e ∷ []) [] ++ log rest name) (same_bytes name)) refl (h name))
+          (none_state _ _ _ _)
+          (λ x. entry_state (log rest name) (is_there rest name) (kept_part name count all) e x (subst (λ g. IfSome (body_transaction e.body) (λ t. length (transactions g) < t.id)) (sym (kept_added name count all)) late)))
+      | inr other ↦
+          subst (Forgetting (log rest ledger) (is_there rest ledger) (kept_part ledger count all)) (sym (find-changed-other name ledger (index_forgotten e.body) pairs other))
+          (same_state _ _ _ _ (kept_part ledger count all) (find name_order ledger pairs) (ap (λ b. cond b (e ∷ []) [] ++ log rest ledger) (bytes_differ name ledger (λ same. other (sym same)))) refl (h ledger))
+    ]
 
 given_up : (count : ℕ) (all rest : List Event) (event : Event) (pairs : Pairs) → IsLate count all event → Facts (event ∷ rest) count all pairs → Facts rest count all (event_forgotten event pairs)
 given_up count all rest (Made info) pairs late h = made_given_up count all rest info pairs late h
@@ -295,9 +298,10 @@ module _ (all : List Event) (count : ℕ) (pairs : Pairs) (h : IsBook all count 
               none_left = λ none. rec.prepared_changes ∙ ap changes_of none;
             };
         tail = λ none.
-            let whole : log (take count all) ledger ++ log (drop count all) ledger ≡ log (take count all) ledger = ap (λ l. log (take count all) ledger ++ l) none ∙ append-nil _ in
-            (take_within x.logged x.entries (entry_count (ledger_part ledger count all) x i (tied ledger count all) ∙ ap length whole ∙ sym i.logged_is),
-              take_within x.transacted x.transactions (record_count (ledger_part ledger count all) x i (tied ledger count all) ∙ ap (λ g. length (transactions g)) whole ∙ sym i.transacted_is));
+            let whole : log (take count all) ledger ++ log (drop count all) ledger ≡ log (take count all) ledger = ap (λ l. log (take count all) ledger ++ l) none ∙ append-nil _ in (
+              take_within x.logged x.entries (entry_count (ledger_part ledger count all) x i (tied ledger count all) ∙ ap length whole ∙ sym i.logged_is),
+              take_within x.transacted x.transactions (record_count (ledger_part ledger count all) x i (tied ledger count all) ∙ ap (λ g. length (transactions g)) whole ∙ sym i.transacted_is),
+            );
       }
 
   going_at_first : (x : LedgerView) → IsIndex (ledger_part ledger count all) x → is_there (take count all) ledger ≡ false → is_there (drop count all) ledger ≡ true

@@ -154,9 +154,10 @@ module _ (ledger : List ℕ) (count : ℕ) (all : List Event) (x : LedgerView) (
   pub reads_entry : (id : ℕ) → ReadsEntry id
   reads_entry zero = NoEntry (find-entry zero) refl
   reads_entry (suc k) =
-      elim (cases_at k (length (log (take count all) ledger)))
-      [ inl lt ↦ entry_at_place k lt
-      | inr le ↦ NoEntry (find-entry (suc k) ∙ none_past k (log (take count all) ledger) le) (none_taken x.logged x.entries k (let n : x.logged ≡ length (log (take count all) ledger) = h.logged_is in omega (arith, n, le))) ]
+      elim (cases_at k (length (log (take count all) ledger))) [
+        | inl lt ↦ entry_at_place k lt
+        | inr le ↦ NoEntry (find-entry (suc k) ∙ none_past k (log (take count all) ledger) le) (none_taken x.logged x.entries k (let n : x.logged ≡ length (log (take count all) ledger) = h.logged_is in omega (arith, n, le)))
+      ]
 
   pub entry-read : (id : ℕ) → entry_by_record all (by_id (take x.logged x.entries) id) ≡ find_entry (log (take count all) ledger) id
   entry-read id = elim (reads_entry id) [ NoEntry none lacking ↦ ap (entry_by_record all) lacking ∙ sym none | AnEntry e r is kept at volumes num ↦ ap (entry_by_record all) kept ∙ at ∙ sym is ]
@@ -189,34 +190,40 @@ module _ (ledger : List ℕ) (count : ℕ) (all : List Event) (x : LedgerView) (
   pub reads_transaction : (id : ℕ) → ReadsTransaction id
   reads_transaction zero = NoTransaction (find-transaction (log (take count all) ledger) sound zero) refl
   reads_transaction (suc k) =
-      elim (cases_at k (length (transactions (log (take count all) ledger))))
-      [ inl lt ↦ transaction_at_place k lt
-      | inr le ↦ NoTransaction (find-transaction (log (take count all) ledger) sound (suc k) ∙ none_past k (transactions (log (take count all) ledger)) le) (none_taken x.transacted x.transactions k (let n : x.transacted ≡ length (transactions (log (take count all) ledger)) = h.transacted_is in omega (arith, n, le))) ]
+      elim (cases_at k (length (transactions (log (take count all) ledger)))) [
+        | inl lt ↦ transaction_at_place k lt
+        | inr le ↦ NoTransaction (find-transaction (log (take count all) ledger) sound (suc k) ∙ none_past k (transactions (log (take count all) ledger)) le) (none_taken x.transacted x.transactions k (let n : x.transacted ≡ length (transactions (log (take count all) ledger)) = h.transacted_is in omega (arith, n, le)))
+      ]
 
   pub transaction-read : (id : ℕ) → transaction_by_entry (made_by_record all (by_id (take x.transacted x.transactions) id)) ≡ transaction_at (log (take count all) ledger) id
-  transaction-read id = elim (reads_transaction id)
-      [ NoTransaction none lacking ↦ ap (λ o. transaction_by_entry (made_by_record all o)) lacking ∙ ap (option_map transaction_of) (sym none)
-      | ATransaction d r e is kept at body date rec ↦ ap (λ o. transaction_by_entry (made_by_record all o)) kept ∙ ap transaction_by_entry at ∙ body ∙ ap (option_map transaction_of) (sym is) ]
+  transaction-read id = elim (reads_transaction id) [
+    | NoTransaction none lacking ↦ ap (λ o. transaction_by_entry (made_by_record all o)) lacking ∙ ap (option_map transaction_of) (sym none)
+    | ATransaction d r e is kept at body date rec ↦ ap (λ o. transaction_by_entry (made_by_record all o)) kept ∙ ap transaction_by_entry at ∙ body ∙ ap (option_map transaction_of) (sym is)
+  ]
 
   pub inserted-read : (id : ℕ) → date_by_entry (made_by_record all (by_id (take x.transacted x.transactions) id)) ≡ inserted_at (log (take count all) ledger) id
-  inserted-read id = elim (reads_transaction id)
-      [ NoTransaction none lacking ↦ ap (λ o. date_by_entry (made_by_record all o)) lacking ∙ ap (option_map date_of) (sym none)
-      | ATransaction d r e is kept at body date rec ↦ ap (λ o. date_by_entry (made_by_record all o)) kept ∙ ap date_by_entry at ∙ ap Some date ∙ ap (option_map date_of) (sym is) ]
+  inserted-read id = elim (reads_transaction id) [
+    | NoTransaction none lacking ↦ ap (λ o. date_by_entry (made_by_record all o)) lacking ∙ ap (option_map date_of) (sym none)
+    | ATransaction d r e is kept at body date rec ↦ ap (λ o. date_by_entry (made_by_record all o)) kept ∙ ap date_by_entry at ∙ ap Some date ∙ ap (option_map date_of) (sym is)
+  ]
 
   pub reverted-read : (id : ℕ) → reverted_by_record (by_id (take x.transacted x.transactions) id) ≡ reverted_by (log (take count all) ledger) id
-  reverted-read id = elim (reads_transaction id)
-      [ NoTransaction none lacking ↦ ap reverted_by_record lacking ∙ ap (option_map reverting_of) (sym (sound.undone_is id none))
-      | ATransaction d r e is kept at body date rec ↦ ap reverted_by_record kept ∙ rec.reverted ]
+  reverted-read id = elim (reads_transaction id) [
+    | NoTransaction none lacking ↦ ap reverted_by_record lacking ∙ ap (option_map reverting_of) (sym (sound.undone_is id none))
+    | ATransaction d r e is kept at body date rec ↦ ap reverted_by_record kept ∙ rec.reverted
+  ]
 
   pub history-there : (id : ℕ) → is_some (option_map history_of (by_id (take x.transacted x.transactions) id)) ≡ is_some (find_transaction (log (take count all) ledger) id)
-  history-there id = elim (reads_transaction id)
-      [ NoTransaction none lacking ↦ ap (λ o. is_some (option_map history_of o)) lacking ∙ ap is_some (sym none)
-      | ATransaction d r e is kept at body date rec ↦ ap (λ o. is_some (option_map history_of o)) kept ∙ ap is_some (sym is) ]
+  history-there id = elim (reads_transaction id) [
+    | NoTransaction none lacking ↦ ap (λ o. is_some (option_map history_of o)) lacking ∙ ap is_some (sym none)
+    | ATransaction d r e is kept at body date rec ↦ ap (λ o. is_some (option_map history_of o)) kept ∙ ap is_some (sym is)
+  ]
 
   pub history-read : (id : ℕ) → IfSome (option_map history_of (by_id (take x.transacted x.transactions) id)) (λ history. history.changes ≡ changes_about (TransactionOf id) (log (take count all) ledger))
-  history-read id = elim (reads_transaction id)
-      [ NoTransaction none lacking ↦ subst (λ o. IfSome (option_map history_of o) (λ history. history.changes ≡ changes_about (TransactionOf id) (log (take count all) ledger))) (sym lacking) tt
-      | ATransaction d r e is kept at body date rec ↦ subst (λ o. IfSome (option_map history_of o) (λ history. history.changes ≡ changes_about (TransactionOf id) (log (take count all) ledger))) (sym kept) rec.changes ]
+  history-read id = elim (reads_transaction id) [
+    | NoTransaction none lacking ↦ subst (λ o. IfSome (option_map history_of o) (λ history. history.changes ≡ changes_about (TransactionOf id) (log (take count all) ledger))) (sym lacking) tt
+    | ATransaction d r e is kept at body date rec ↦ subst (λ o. IfSome (option_map history_of o) (λ history. history.changes ≡ changes_about (TransactionOf id) (log (take count all) ledger))) (sym kept) rec.changes
+  ]
 
 -- ---- the record of a ledger
 

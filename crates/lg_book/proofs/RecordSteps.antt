@@ -119,14 +119,15 @@ module _ (added prepared : List Entry) (e : Entry) where
   targeted rs (Account name) change there h ids same = still rs h ids
   targeted rs (TransactionOf id) change there h ids same = λ k r is.
       let x = changed_cases (with_prepared change) (id - 1) rs k r is in
-      elim x.2
-      [ inl here ↦
-        let at : id ≡ suc k = omega (arith, there.0, here.0) in
-        subst (IsRecord added (prepared ++ e ∷ []) (suc k)) (sym here.1)
-        (changing (suc k) x.0 change (h k x.0 x.1) (own_change_is (suc k) e (ids ∙ ap Some at) ∙ ap (λ c. dated_as e.date c ∷ []) same))
-      | inr other ↦
-        subst (IsRecord added (prepared ++ e ∷ []) (suc k)) (sym other.1)
-        (quiet (suc k) x.0 (h k x.0 x.1) (no_own_changes (suc k) e (λ own. other.0 (let at : id ≡ suc k = some_same id (suc k) (sym ids ∙ own) in let n : k ≡ id - 1 = omega (arith, at) in n)))) ]
+      elim x.2 [
+        | inl here ↦
+            let at : id ≡ suc k = omega (arith, there.0, here.0) in
+            subst (IsRecord added (prepared ++ e ∷ []) (suc k)) (sym here.1)
+            (changing (suc k) x.0 change (h k x.0 x.1) (own_change_is (suc k) e (ids ∙ ap Some at) ∙ ap (λ c. dated_as e.date c ∷ []) same))
+        | inr other ↦
+            subst (IsRecord added (prepared ++ e ∷ []) (suc k)) (sym other.1)
+            (quiet (suc k) x.0 (h k x.0 x.1) (no_own_changes (suc k) e (λ own. other.0 (let at : id ≡ suc k = some_same id (suc k) (sym ids ∙ own) in let n : k ≡ id - 1 = omega (arith, at) in n))))
+      ]
 
   module _ (sound : IsSound (added ++ prepared)) where
     fresh : (k place : ℕ) (t : Transaction) → length (transactions (added ++ prepared)) ≤ k → own_changes (suc k) e ≡ dated_as e.date (Set t.metadata) ∷ [] → IsRecord added (prepared ++ e ∷ []) (suc k) (new_record place t)
@@ -142,15 +143,16 @@ module _ (added prepared : List Entry) (e : Entry) where
     renewed : (rs : List TransactionRecord) (place : ℕ) (t : Transaction) → length rs ≡ length (transactions (added ++ prepared)) → AreRecords added prepared rs
         → changed_id e.body ≡ Some t.id → change_in e.body ≡ Set t.metadata → t.id ≡ length (transactions (added ++ prepared)) + 1 → AreRecords added (prepared ++ e ∷ []) (rs ++ new_record place t ∷ [])
     renewed rs place t same h ids change next = λ k r is.
-        elim (snoc_cases rs (new_record place t) r k is)
-        [ inl old ↦ quiet (suc k) r (h k r old) (no_own_changes (suc k) e (λ own.
+        elim (snoc_cases rs (new_record place t) r k is) [
+          | inl old ↦ quiet (suc k) r (h k r old) (no_own_changes (suc k) e (λ own.
               let lt : k < length rs = slice_get_within_length rs k r old in
               let at : t.id ≡ suc k = some_same t.id (suc k) (sym ids ∙ own) in
               omega (arith, lt, at, same, next)))
-        | inr new ↦
-          let at : t.id ≡ suc k = omega (arith, new.0, same, next) in
-          subst (IsRecord added (prepared ++ e ∷ []) (suc k)) new.1
-          (fresh k place t (omega (arith, new.0, same)) (own_change_is (suc k) e (ids ∙ ap Some at) ∙ ap (λ c. dated_as e.date c ∷ []) change)) ]
+          | inr new ↦
+              let at : t.id ≡ suc k = omega (arith, new.0, same, next) in
+              subst (IsRecord added (prepared ++ e ∷ []) (suc k)) new.1
+              (fresh k place t (omega (arith, new.0, same)) (own_change_is (suc k) e (ids ∙ ap Some at) ∙ ap (λ c. dated_as e.date c ∷ []) change))
+        ]
 
     pub are_prepared : (body : EntryBody) → e.body ≡ body → (rs : List TransactionRecord) (place : ℕ) → length rs ≡ length (transactions (added ++ prepared)) → AreRecords added prepared rs → MayFollowLog (added ++ prepared) e
         → AreRecords added (prepared ++ e ∷ []) (records_prepared place body rs)
@@ -211,12 +213,13 @@ module _ (added rest : List Entry) (e : Entry) where
       → (x : TransactionRecord) × (slice_get rs k ≡ Some x) × HistoryStep e (suc k) x.history r.history × (r.reverted_by ≡ x.reverted_by)
   step_at id one ids rs k r is =
       let x = changed_cases (with_first_applied e.date) (id - 1) rs k r is in
-      elim x.2
-      [ inl here ↦
-        let at : id ≡ suc k = omega (arith, one, here.0) in
-        (x.0, x.1, Changed (change_in e.body) (own_change_is (suc k) e (ids ∙ ap Some at)) (ap (λ y. y.history) here.1), ap (λ y. y.reverted_by) here.1)
-      | inr other ↦
-        (x.0, x.1, Still (no_own_changes (suc k) e (λ own. other.0 (let at : id ≡ suc k = some_same id (suc k) (sym ids ∙ own) in let n : k ≡ id - 1 = omega (arith, at) in n))) (ap (λ y. y.history) other.1), ap (λ y. y.reverted_by) other.1) ]
+      elim x.2 [
+        | inl here ↦
+            let at : id ≡ suc k = omega (arith, one, here.0) in
+            (x.0, x.1, Changed (change_in e.body) (own_change_is (suc k) e (ids ∙ ap Some at)) (ap (λ y. y.history) here.1), ap (λ y. y.reverted_by) here.1)
+        | inr other ↦
+            (x.0, x.1, Still (no_own_changes (suc k) e (λ own. other.0 (let at : id ≡ suc k = some_same id (suc k) (sym ids ∙ own) in let n : k ≡ id - 1 = omega (arith, at) in n))) (ap (λ y. y.history) other.1), ap (λ y. y.reverted_by) other.1)
+      ]
 
   changed_after : (id : ℕ) → 1 ≤ id → changed_id e.body ≡ Some id → ((n : ℕ) → find (undoes n) (entry_undoings e) ≡ None) → (rs : List TransactionRecord) → AreRecords added (e ∷ rest) rs → AreRecords (added ++ e ∷ []) rest (changed_at (with_first_applied e.date) (id - 1) rs)
   changed_after id one ids none rs h k r is =
@@ -249,14 +252,15 @@ module _ (added rest : List Entry) (e : Entry) where
   revert_after reverted t is one own none rs h = λ k r at.
       let y = changed_cases (with_reverted_by t.id) (reverted - 1) (changed_at (with_first_applied e.date) (t.id - 1) rs) k r at in
       let x = step_at t.id own (ap changed_id is) rs k y.0 y.1 in
-      elim y.2
-      [ inl here ↦
-        let same : reverted ≡ suc k = omega (arith, one, here.0) in
-        after_step (suc k) x.0 r (h k x.0 x.1) (subst (HistoryStep e (suc k) x.0.history) (sym (ap (λ z. z.history) here.1)) x.2)
-        (Marked (record { reverted = reverted; by = t.id; date = e.date }) (ap (λ b. find (undoes (suc k)) (body_undoings e.date b)) is ∙ undoes_one reverted t (suc k) same) (ap (undone added) (sym same) ∙ none) (ap (λ z. z.reverted_by) here.1))
-      | inr other ↦
-        after_step (suc k) x.0 r (h k x.0 x.1) (subst (HistoryStep e (suc k) x.0.history) (sym (ap (λ z. z.history) other.1)) x.2)
-        (Kept (ap (λ b. find (undoes (suc k)) (body_undoings e.date b)) is ∙ undoes_none reverted t (suc k) (λ same. other.0 (let n : k ≡ reverted - 1 = omega (arith, same) in n))) (ap (λ z. z.reverted_by) other.1 ∙ x.3)) ]
+      elim y.2 [
+        | inl here ↦
+            let same : reverted ≡ suc k = omega (arith, one, here.0) in
+            after_step (suc k) x.0 r (h k x.0 x.1) (subst (HistoryStep e (suc k) x.0.history) (sym (ap (λ z. z.history) here.1)) x.2)
+            (Marked (record { reverted = reverted; by = t.id; date = e.date }) (ap (λ b. find (undoes (suc k)) (body_undoings e.date b)) is ∙ undoes_one reverted t (suc k) same) (ap (undone added) (sym same) ∙ none) (ap (λ z. z.reverted_by) here.1))
+        | inr other ↦
+            after_step (suc k) x.0 r (h k x.0 x.1) (subst (HistoryStep e (suc k) x.0.history) (sym (ap (λ z. z.history) other.1)) x.2)
+            (Kept (ap (λ b. find (undoes (suc k)) (body_undoings e.date b)) is ∙ undoes_none reverted t (suc k) (λ same. other.0 (let n : k ≡ reverted - 1 = omega (arith, same) in n))) (ap (λ z. z.reverted_by) other.1 ∙ x.3))
+      ]
 
   pub are_added : (body : EntryBody) → e.body ≡ body → (rs : List TransactionRecord) → CanAddTo rs e.date body → MayFollowLog added e → AreRecords added (e ∷ rest) rs → AreRecords (added ++ e ∷ []) rest (records_added e.date body rs)
   are_added (NewTransaction t accounts) is rs can f h = changed_after t.id can.is_id.0 (ap changed_id is) (λ n. ap (λ b. find (undoes n) (body_undoings e.date b)) is) rs h

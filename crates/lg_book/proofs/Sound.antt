@@ -230,23 +230,26 @@ up_to_later (Some last) a b le h = omega (arith, ints)
 dates_more : (cs : List DatedChange) (date later : ℤ) (o : Option ℕ) (change : MetaChange) (id : ℕ) → date ≤ℤ later → IfSome (last_date cs) (λ last. last ≤ℤ date) → IfSome (last_date (cs ++ if_id date o change id)) (λ last. last ≤ℤ later)
 dates_more cs date later None change id le h = subst (λ l. IfSome (last_date l) (λ last. last ≤ℤ later)) (sym (append-nil cs)) (up_to_later (last_date cs) date later le h)
 dates_more cs date later (Some j) change id le h =
-    elim (nat_eq j id) as (λ b. IfSome (last_date (cs ++ cond b (dated_as date change ∷ []) [])) (λ last. last ≤ℤ later))
-    [ true ↦ subst (λ o. IfSome o (λ last. last ≤ℤ later)) (sym (last_date-snoc cs (dated_as date change))) le
-    | false ↦ subst (λ l. IfSome (last_date l) (λ last. last ≤ℤ later)) (sym (append-nil cs)) (up_to_later (last_date cs) date later le h) ]
+    elim (nat_eq j id) as (λ b. IfSome (last_date (cs ++ cond b (dated_as date change ∷ []) [])) (λ last. last ≤ℤ later)) [
+      | true ↦ subst (λ o. IfSome o (λ last. last ≤ℤ later)) (sym (last_date-snoc cs (dated_as date change))) le
+      | false ↦ subst (λ l. IfSome (last_date l) (λ last. last ≤ℤ later)) (sym (append-nil cs)) (up_to_later (last_date cs) date later le h)
+    ]
 
 new_ids : (g : List Entry) (date : ℤ) (o : Option Transaction) → ((k : ℕ) (d : Dated) → slice_get (transactions g) k ≡ Some d → d.transaction.id ≡ suc k) → is_misnumbered g o ≡ false
     → (k : ℕ) (d : Dated) → slice_get (transactions g ++ dated date o) k ≡ Some d → d.transaction.id ≡ suc k
 new_ids g date None ids h k d e = ids k d (subst (λ l. slice_get l k ≡ Some d) (append-nil (transactions g)) e)
 new_ids g date (Some t) ids h k d e =
-    elim (snoc_cases (transactions g) (record { date = date; transaction = t }) d k e)
-    [ inl old ↦ ids k d old
-    | inr new ↦ ap (λ x. x.transaction.id) (sym new.1) ∙ next_id g t h ∙ (let at : k ≡ length (transactions g) = new.0 in let r : length (transactions g) + 1 ≡ suc k = omega (arith, at) in r) ]
+    elim (snoc_cases (transactions g) (record { date = date; transaction = t }) d k e) [
+      | inl old ↦ ids k d old
+      | inr new ↦ ap (λ x. x.transaction.id) (sym new.1) ∙ next_id g t h ∙ (let at : k ≡ length (transactions g) = new.0 in let r : length (transactions g) + 1 ≡ suc k = omega (arith, at) in r)
+    ]
 
 pub sound-snoc : (g : List Entry) (e : Entry) → IsSound g → MayFollowLog g e → IsSound (g ++ e ∷ [])
 sound-snoc g e h f = record {
-  ids = λ k x is. elim (snoc_cases g e x k is)
-      [ inl old ↦ h.ids k x old
-      | inr new ↦ ap (λ y. y.id) (sym new.1) ∙ f.id ∙ (let at : k ≡ length g = new.0 in let r : length g + 1 ≡ suc k = omega (arith, at) in r) ];
+  ids = λ k x is. elim (snoc_cases g e x k is) [
+    | inl old ↦ h.ids k x old
+    | inr new ↦ ap (λ y. y.id) (sym new.1) ∙ f.id ∙ (let at : k ≡ length g = new.0 in let r : length g + 1 ≡ suc k = omega (arith, at) in r)
+  ];
   transaction_ids = λ k d is. new_ids g e.date (body_transaction e.body) h.transaction_ids f.transaction k d (subst (λ l. slice_get l k ≡ Some d) (transactions-snoc g e) is);
   changed = λ id none.
       let both : option_or (find_transaction g id) (find (has_id id) (entry_transactions e)) ≡ None = sym (found-snoc id g e) ∙ none in
@@ -297,6 +300,7 @@ none_more ledger events (Logged name e) f before none = by_test (bytes_eq name l
   where
     gone : is_there events ledger ≡ false
     gone = or_left _ _ (sym (list_any-append (is_made_as ledger) events (Logged name e ∷ [])) ∙ none)
+
     by_test : (b : Bool) → bytes_eq name ledger ≡ b → log events ledger ++ cond b (e ∷ []) [] ≡ []
     by_test true is = absurd (let there : is_there events ledger ≡ true = subst (λ n. is_there events n ≡ true) (bytes_same name ledger is) f.0 in let h : true ≡ false = sym there ∙ gone in cc)
     by_test false is = ap (λ l. l ++ []) (before gone)

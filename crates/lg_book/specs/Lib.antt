@@ -1,6 +1,5 @@
 pub mod Booked
 pub mod EntryLaws
-pub mod Examples
 pub mod FirstVolumes
 pub mod Following
 pub mod Index

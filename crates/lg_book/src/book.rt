@@ -12,6 +12,7 @@ ghost use Rattle.lg_book.specs.FirstVolumes.{volumes_after};
 ghost use Rattle.lg_book.specs.Following.{MayFollow, IsGrown};
 ghost use Rattle.lg_book.specs.Reading.{ledger_of, count_entries, count_transactions, find_entry, transaction_at, inserted_at, reverted_by as reverting_id};
 
+use crate::changing::{add_event, forget_events, prepare_event};
 use crate::ledger_index::{LedgerIndex, push_within};
 use crate::ledgers::find_ledger;
 use crate::opening::first_ledger;
@@ -20,7 +21,6 @@ use crate::readings::{
     reverted_in, transaction_in,
 };
 use crate::volumes::FirstVolumes;
-use crate::changing::{add_event, forget_events, prepare_event};
 use lg_containers::{Duplicate, LedgerName};
 use lg_meta::MetaHistory;
 use lg_turns::Journal;

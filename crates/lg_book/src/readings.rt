@@ -74,11 +74,7 @@ pub(crate) fn info_in<'a>(events: &'a [Event], index: &LedgerIndex) -> Option<&'
 }
 
 /// The entry of the id, of those that were added.
-pub(crate) fn entry_in<'a>(
-    events: &'a [Event],
-    index: &LedgerIndex,
-    id: u64,
-) -> Option<&'a Entry>
+pub(crate) fn entry_in<'a>(events: &'a [Event], index: &LedgerIndex, id: u64) -> Option<&'a Entry>
     ensures { option_copied result ≡ entry_by_record events.now (by_id (take index.now.logged index.now.entries) id) }
 {
     match index.entry_record(id) {
@@ -202,11 +198,7 @@ pub(crate) fn reply_in(
     }
 }
 
-fn reply_by_record(
-    alloc: Global,
-    events: &[Event],
-    kept: &EntryRecord,
-) -> Result<Reply, NoMemory>
+fn reply_by_record(alloc: Global, events: &[Event], kept: &EntryRecord) -> Result<Reply, NoMemory>
     requires { IsSome (entry_there (slice_get events.now kept.now.place)) }
     ensures { IfOk result (λ reply. IfSome (entry_there (slice_get events.now kept.now.place)) (λ e. (g : List Entry) → kept.now.volumes ≡ entry_volumes g e → reply ≡ plain (first_reply g e))) }
 {

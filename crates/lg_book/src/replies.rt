@@ -29,11 +29,7 @@ pub(crate) fn reply_of(
     })
 }
 
-fn content_of(
-    alloc: Global,
-    entry: &Entry,
-    volumes: &FirstVolumes,
-) -> Result<Content, NoMemory>
+fn content_of(alloc: Global, entry: &Entry, volumes: &FirstVolumes) -> Result<Content, NoMemory>
     ensures { IfOk result (λ content. (g : List Entry) → volumes.now ≡ entry_volumes g entry.now → content ≡ first_reply g entry.now) }
 {
     match &entry.body {
