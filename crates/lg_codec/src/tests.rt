@@ -188,34 +188,43 @@ fn scripts_and_empty_postings(rt: HostRuntime) {
     assert!(rt; is_refused(alloc, b"{\"script\":null,\"postings\":[]}", false));
 }
 
-#[test]
-fn a_creation_is_read(rt: HostRuntime) -> Result<(), Fail> {
-    let alloc = rt.alloc();
-    let body = json(
-        alloc,
-        b"{\"reference\":\"\",\"other\":1,\"timestamp\":\"2024-01-01T00:00:00Z\",\"force\":true,\"metadata\":{\"k\":\"v\"},\"postings\":[{\"source\":\"world\",\"destination\":\"users:1\",\"amount\":100,\"asset\":\"USD/2\"}]}",
-    );
-    match write_of_json(alloc, WriteKind::Create, &body) {
-        Ok(
-            Write::Create {
-                postings,
-                reference,
-                timestamp,
-                metadata,
-                accounts,
-                force,
-            },
-        ) => {
-            assert_eq!(rt; postings.len(), 1);
-            assert!(rt; reference.is_none());
-            assert!(rt; timestamp == Some(1704067200000000));
-            assert_eq!(rt; metadata.len(), 1);
-            assert_eq!(rt; accounts.len(), 0);
-            assert!(rt; force);
+/// Whether the write is the creation of one posting with a timestamp, one name of metadata and `force`.
+fn is_creation(write: &Write) -> bool {
+    match write {
+        Write::Create {
+            postings,
+            reference,
+            timestamp,
+            metadata,
+            accounts,
+            force,
+        } => {
+            *force
+                && postings.len() == 1
+                && reference.is_none()
+                && *timestamp == Some(1704067200000000)
+                && metadata.len() == 1
+                && accounts.len() == 0
         }
-        _ => assert!(rt; false),
+        _ => false,
     }
-    Ok(())
+}
+
+fn creates(alloc: Global, body: &[u8]) -> bool {
+    match write_of_json(alloc, WriteKind::Create, &json(alloc, body)) {
+        Ok(write) => is_creation(&write),
+        Err(_) => false,
+    }
+}
+
+#[test]
+fn a_creation_is_read(rt: HostRuntime) {
+    assert!(rt;
+        creates(
+            rt.alloc(),
+            b"{\"reference\":\"\",\"other\":1,\"timestamp\":\"2024-01-01T00:00:00Z\",\"force\":true,\"metadata\":{\"k\":\"v\"},\"postings\":[{\"source\":\"world\",\"destination\":\"users:1\",\"amount\":100,\"asset\":\"USD/2\"}]}"
+        )
+    );
 }
 
 /// Whether the body of a ledger is refused at the path for the reason.
@@ -226,16 +235,17 @@ fn is_wrong_ledger(alloc: Global, body: &[u8], at: &[u8], why: Reason) -> bool {
     }
 }
 
+fn is_default_ledger(alloc: Global) -> bool {
+    match ledger_of_json(alloc, &Json::Null) {
+        Ok(ledger) => ledger.0.bytes() == b"_default".as_slice() && ledger.1.len() == 0,
+        Err(_) => false,
+    }
+}
+
 #[test]
 fn ledgers(rt: HostRuntime) {
     let alloc = rt.alloc();
-    match ledger_of_json(alloc, &Json::Null) {
-        Ok((bucket, metadata)) => {
-            assert!(rt; bucket.bytes() == b"_default".as_slice());
-            assert_eq!(rt; metadata.len(), 0);
-        }
-        Err(_) => assert!(rt; false),
-    }
+    assert!(rt; is_default_ledger(alloc));
     assert!(rt; is_wrong_ledger(alloc, b"[]", b"body", Reason::Kind));
     assert!(rt; is_wrong_ledger(alloc, b"{\"bucket\":\"\"}", b"bucket", Reason::Form));
     assert!(rt;
@@ -335,37 +345,48 @@ fn plain(content: Content) -> Reply {
 }
 
 #[test]
-fn refusals_and_failed_elements(rt: HostRuntime) -> Result<(), Fail> {
-    let alloc = rt.alloc();
+fn refusals(rt: HostRuntime) {
     let refused = plain(Content::Refused(Refusal::NoTransaction { id: 7 }));
     assert_eq!(rt; status_of(&refused), 404);
     assert!(rt;
         is_body(
-            alloc,
+            rt.alloc(),
             &refused,
             b"{\"errorCode\":\"NOT_FOUND\",\"errorMessage\":\"transaction 7\"}"
         )
     );
+}
+
+fn failed_item(alloc: Global) -> Result<BulkItem, NameFault> {
+    let path = Text::read(alloc, b"action")?;
+    Ok(BulkItem::Failed {
+        element: 1,
+        refusal: Refusal::Member {
+            path,
+            reason: Reason::Form,
+        },
+    })
+}
+
+fn bulk_reply(alloc: Global) -> Result<Reply, NameFault> {
+    let failed = failed_item(alloc)?;
     let mut items = List::new(alloc);
     items.push(BulkItem::Good {
         action: Action::AddMetadata,
         log_id: 2,
         transaction: None,
     })?;
-    let path = Text::read(alloc, b"action")?;
-    let refusal = Refusal::Member {
-        path,
-        reason: Reason::Form,
-    };
-    items.push(BulkItem::Failed {
-        element: 1,
-        refusal,
-    })?;
-    let reply = plain(Content::Bulk(BulkView { items }));
+    items.push(failed)?;
+    Ok(plain(Content::Bulk(BulkView { items })))
+}
+
+#[test]
+fn failed_elements(rt: HostRuntime) -> Result<(), Fail> {
+    let reply = bulk_reply(rt.alloc())?;
     assert_eq!(rt; status_of(&reply), 400);
     assert!(rt;
         is_body(
-            alloc,
+            rt.alloc(),
             &reply,
             b"{\"data\":[{\"responseType\":\"ADD_METADATA\",\"logID\":2},{\"responseType\":\"ERROR\",\"errorCode\":\"VALIDATION\",\"errorDescription\":\"element 1: action: form\"}]}"
         )
