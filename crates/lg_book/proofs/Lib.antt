@@ -6,6 +6,7 @@ mod BookReads
 mod Copies
 mod BookSteps
 mod EntryIds
+mod ExampleSteps
 mod ForgetSteps
 mod IndexSteps
 mod RecordSteps

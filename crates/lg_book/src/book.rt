@@ -199,6 +199,7 @@ impl Book {
     }
 
     /// The first reply of the ledger's entry of the id: the volumes are those right after the entry, whatever came later.
+    /// `hit` is false in it: whoever answers a request by the entry that is kept for its key sets it.
     pub fn first_reply(&self, name: &LedgerName, entry: u64) -> Result<Reply, NoMemory>
         requires { IsSome (find_entry (log self.now.events name.now) entry) }
         ensures { IfOk result (λ reply. IfSome (find_entry (log self.now.events name.now) entry) (λ e. reply ≡ plain (first_reply_of (up_to (log self.now.events name.now) e) e))) }

@@ -10,6 +10,8 @@ mod opening;
 mod readings;
 mod records;
 mod replies;
+#[cfg(test)]
+mod tests;
 mod volumes;
 
 pub use book::Book;
