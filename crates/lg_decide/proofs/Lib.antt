@@ -1,0 +1,4 @@
+pub mod EntryLemmas
+pub mod RevertLemmas
+pub mod StripeLemmas
+pub mod WriteLemmas
