@@ -1,5 +1,7 @@
 //! The stripes of calls in the ledger `default`, and decisions of writes.
 
+ghost use Rattle.std.specs.Prelude.{◌≡◌};
+
 use crate::{Decided, Looked, StripeSet, decide_write, new_entry, stripes_of};
 use lg_types::{
     AccountMeta, Address, Amount, Asset, Call, EntryBody, Expand, Filter, Key, LedgerName, Meta,
@@ -74,21 +76,39 @@ fn read_call(alloc: Global, read: Read) -> Result<Call, Fail> {
     Ok(Call::Read { ledger, read })
 }
 
-#[test]
-fn a_creation_needs_its_accounts_its_key_and_its_reference(rt: HostRuntime) -> Result<(), Fail> {
-    let alloc = rt.alloc();
+fn two_postings(alloc: Global) -> Result<Postings, Fail> {
     let mut postings = one(alloc, b"world", b"a", 10)?;
     postings.push(posting(alloc, b"a", b"b", 10)?)?;
-    let plain = write_call(alloc, None, creation(alloc, postings, None))?;
-    assert!(rt; is_just(stripes_of(&plain, None), &[0, 7, 9]));
-    let key = Key::read(alloc, b"k2")?;
-    let reference = Reference::read(alloc, b"r1")?;
-    let postings = one(alloc, b"c", b"d", 10)?;
-    let named = write_call(alloc, Some(key), creation(alloc, postings, Some(reference)))?;
-    assert!(rt; is_just(stripes_of(&named, None), &[1, 2, 6, 15]));
+    Ok(postings)
+}
+
+fn plain_creation(alloc: Global) -> Result<Call, Fail> {
+    let postings = two_postings(alloc)?;
+    write_call(alloc, None, creation(alloc, postings, None))
+}
+
+#[test]
+fn a_creation_needs_its_accounts(rt: HostRuntime) -> Result<(), Fail> {
+    let call = plain_creation(rt.alloc())?;
+    assert!(rt; is_just(stripes_of(&call, None), &[0, 7, 9]));
     Ok(())
 }
 
+fn named_creation(alloc: Global) -> Result<Call, Fail> {
+    let key = Key::read(alloc, b"k2")?;
+    let reference = Reference::read(alloc, b"r1")?;
+    let postings = one(alloc, b"c", b"d", 10)?;
+    write_call(alloc, Some(key), creation(alloc, postings, Some(reference)))
+}
+
+#[test]
+fn a_creation_needs_its_key_and_its_reference(rt: HostRuntime) -> Result<(), Fail> {
+    let call = named_creation(rt.alloc())?;
+    assert!(rt; is_just(stripes_of(&call, None), &[1, 2, 6, 15]));
+    Ok(())
+}
+
+/// The revert of the transaction of id 1.
 fn revert(at_effective_date: bool) -> Write {
     Write::Revert {
         id: 1,
@@ -107,17 +127,20 @@ fn a_revert_needs_the_accounts_of_its_transaction(rt: HostRuntime) -> Result<(),
     Ok(())
 }
 
-#[test]
-fn metadata_need_the_target_account(rt: HostRuntime) -> Result<(), Fail> {
-    let alloc = rt.alloc();
-    let target = Target::Account(Address::read(alloc, b"c")?);
+fn set_meta(alloc: Global, target: Target) -> Result<Call, Fail> {
     let metadata = Meta::new(alloc);
-    let set = write_call(alloc, None, Write::SetMeta { target, metadata })?;
-    assert!(rt; is_just(stripes_of(&set, None), &[6]));
-    let target = Target::Transaction(1);
-    let name = Text::read(alloc, b"note")?;
-    let taken = write_call(alloc, None, Write::DropMeta { target, name })?;
-    assert!(rt; is_just(stripes_of(&taken, None), &[]));
+    write_call(alloc, None, Write::SetMeta { target, metadata })
+}
+
+fn set_on_account(alloc: Global) -> Result<Call, Fail> {
+    let address = Address::read(alloc, b"c")?;
+    set_meta(alloc, Target::Account(address))
+}
+
+#[test]
+fn metadata_need_their_account(rt: HostRuntime) -> Result<(), Fail> {
+    let call = set_on_account(rt.alloc())?;
+    assert!(rt; is_just(stripes_of(&call, None), &[6]));
     Ok(())
 }
 
@@ -141,29 +164,47 @@ fn first_page() -> Query {
     }
 }
 
-#[test]
-fn reads_need_one_account_or_all(rt: HostRuntime) -> Result<(), Fail> {
-    let alloc = rt.alloc();
-    let account = Read::Account {
-        address: Address::read(alloc, b"d")?,
-        pit: None,
-        expand: Expand {
-            volumes: true,
-            effective: false,
-        },
+fn account_read(alloc: Global) -> Result<Read, Fail> {
+    let address = Address::read(alloc, b"d")?;
+    let expand = Expand {
+        volumes: true,
+        effective: false,
     };
-    let one_account = read_call(alloc, account)?;
-    let list = read_call(
-        alloc,
-        Read::Accounts {
-            query: first_page(),
-        },
-    )?;
-    let unreadable = Call::Unreadable(Refusal::NoRoute);
+    Ok(Read::Account {
+        address,
+        pit: None,
+        expand,
+    })
+}
+
+fn account_call(alloc: Global) -> Result<Call, Fail> {
+    read_call(alloc, account_read(alloc)?)
+}
+
+#[test]
+fn a_read_of_an_account_needs_it_alone(rt: HostRuntime) -> Result<(), Fail> {
+    let call = account_call(rt.alloc())?;
+    assert!(rt; is_just(stripes_of(&call, None), &[15]));
+    Ok(())
+}
+
+fn list_call(alloc: Global) -> Result<Call, Fail> {
+    let query = first_page();
+    read_call(alloc, Read::Accounts { query })
+}
+
+#[test]
+fn a_list_needs_all_stripes(rt: HostRuntime) -> Result<(), Fail> {
+    let call = list_call(rt.alloc())?;
     let all = [0, 1, 2, 3, 4, 5, 6, 7, 8, 9, 10, 11, 12, 13, 14, 15];
-    assert!(rt; is_just(stripes_of(&one_account, None), &[15]));
-    assert!(rt; is_just(stripes_of(&list, None), &all));
-    assert!(rt; is_just(stripes_of(&unreadable, None), &[]));
+    assert!(rt; is_just(stripes_of(&call, None), &all));
+    Ok(())
+}
+
+#[test]
+fn what_is_unreadable_needs_nothing(rt: HostRuntime) -> Result<(), Fail> {
+    let call = Call::Unreadable(Refusal::NoRoute);
+    assert!(rt; is_just(stripes_of(&call, None), &[]));
     Ok(())
 }
 
@@ -200,7 +241,9 @@ fn told(alloc: Global, decided: &Decided) -> Result<String, Fail> {
 }
 
 /// What is looked up on a log of two transactions.
-fn looked(transaction: Option<&Transaction>, used: Option<u64>) -> Looked<'_> {
+fn looked(transaction: Option<&Transaction>, used: Option<u64>) -> Looked<'_>
+    ensures { result.transactions ≡ 2 }
+{
     Looked {
         transactions: 2,
         transaction,
@@ -209,92 +252,90 @@ fn looked(transaction: Option<&Transaction>, used: Option<u64>) -> Looked<'_> {
     }
 }
 
+/// What is decided of the write at the date 7.
+fn outcome(
+    alloc: Global,
+    write: &Write,
+    looked: &Looked<'_>,
+    trial: Option<Refusal>,
+) -> Result<String, Fail>
+    requires { looked.now.transactions ≡ 2 }
+{
+    let decided = decide_write(alloc, &7, write, looked, trial)?;
+    told(alloc, &decided)
+}
+
+fn referred_creation(alloc: Global) -> Result<Write, Fail> {
+    let reference = Reference::read(alloc, b"r1")?;
+    let postings = one(alloc, b"a", b"b", 10)?;
+    Ok(creation(alloc, postings, Some(reference)))
+}
+
 #[test]
 fn a_creation_is_refused_for_its_postings_first(rt: HostRuntime) -> Result<(), Fail> {
     let alloc = rt.alloc();
-    let reference = Reference::read(alloc, b"r1")?;
-    let write = creation(alloc, one(alloc, b"a", b"b", 10)?, Some(reference));
-    let over = Some(Refusal::Limit { posting: 0 });
-    let both = decide_write(alloc, &7, &write, &looked(None, Some(1)), over)?;
-    let used = decide_write(alloc, &7, &write, &looked(None, Some(1)), None)?;
-    let free = decide_write(alloc, &7, &write, &looked(None, None), None)?;
-    assert_eq!(rt; told(alloc, &both)?.as_str(), "posting 0 is over");
-    assert_eq!(rt; told(alloc, &used)?.as_str(), "used by 1");
-    assert_eq!(rt; told(alloc, &free)?.as_str(), "transaction 3 at 7");
+    let write = referred_creation(alloc)?;
+    let taken = looked(None, Some(1));
+    let free = looked(None, None);
+    let over = outcome(alloc, &write, &taken, Some(Refusal::Limit { posting: 0 }))?;
+    assert_eq!(rt; over.as_str(), "posting 0 is over");
+    let used = outcome(alloc, &write, &taken, None)?;
+    assert_eq!(rt; used.as_str(), "used by 1");
+    let accepted = outcome(alloc, &write, &free, None)?;
+    assert_eq!(rt; accepted.as_str(), "transaction 3 at 7");
     Ok(())
+}
+
+fn original(alloc: Global) -> Result<Transaction, Fail> {
+    Ok(transaction(alloc, one(alloc, b"a", b"b", 10)?))
 }
 
 #[test]
 fn a_revert_needs_a_transaction_that_stands(rt: HostRuntime) -> Result<(), Fail> {
     let alloc = rt.alloc();
-    let original = transaction(alloc, one(alloc, b"a", b"b", 10)?);
-    let mut gone = looked(Some(&original), None);
-    gone.reverted_by = Some(2);
+    let original = original(alloc)?;
     let stands = looked(Some(&original), None);
-    let unknown = decide_write(alloc, &7, &revert(false), &looked(None, None), None)?;
-    let again = decide_write(alloc, &7, &revert(false), &gone, None)?;
-    let now = decide_write(alloc, &7, &revert(false), &stands, None)?;
-    let then = decide_write(alloc, &7, &revert(true), &stands, None)?;
-    assert_eq!(rt; told(alloc, &unknown)?.as_str(), "no transaction 1");
-    assert_eq!(rt; told(alloc, &again)?.as_str(), "1 is reverted by 2");
-    assert_eq!(rt; told(alloc, &now)?.as_str(), "transaction 3 at 7 for 1");
-    assert_eq!(rt; told(alloc, &then)?.as_str(), "transaction 3 at 5 for 1");
+    let unknown = outcome(alloc, &revert(false), &looked(None, None), None)?;
+    assert_eq!(rt; unknown.as_str(), "no transaction 1");
+    let now = outcome(alloc, &revert(false), &stands, None)?;
+    assert_eq!(rt; now.as_str(), "transaction 3 at 7 for 1");
+    let then = outcome(alloc, &revert(true), &stands, None)?;
+    assert_eq!(rt; then.as_str(), "transaction 3 at 5 for 1");
     Ok(())
 }
 
-#[test]
-fn a_revert_turns_its_postings_and_names_its_transaction(rt: HostRuntime) -> Result<(), Fail> {
-    let alloc = rt.alloc();
-    let mut postings = one(alloc, b"world", b"a", 10)?;
-    postings.push(posting(alloc, b"a", b"b", 8)?)?;
-    let original = transaction(alloc, postings);
-    let decided = decide_write(
-        alloc,
-        &7,
-        &revert(false),
-        &looked(Some(&original), None),
-        None,
-    )?;
-    let Decided::Granted(EntryBody::Reverted { transaction, .. }) = &decided else {
-        return Err(Fail::from("refused"));
-    };
-    let first = transaction.postings.get(0).ok_or("first")?;
-    let value = transaction
-        .metadata
-        .find(b"com.formance.spec/state/reverts")
-        .ok_or("name")?;
-    assert!(rt; first.source.bytes() == b"b");
-    assert!(rt; first.destination.bytes() == b"a");
-    assert!(rt; value.bytes() == b"1");
-    Ok(())
-}
-
-#[test]
-fn metadata_are_set_on_what_is_there(rt: HostRuntime) -> Result<(), Fail> {
-    let alloc = rt.alloc();
-    let original = transaction(alloc, one(alloc, b"a", b"b", 10)?);
+fn dropping(alloc: Global) -> Result<Write, Fail> {
     let target = Target::Transaction(1);
     let name = Text::read(alloc, b"note")?;
-    let write = Write::DropMeta { target, name };
-    let there = decide_write(alloc, &7, &write, &looked(Some(&original), None), None)?;
-    let gone = decide_write(alloc, &7, &write, &looked(None, None), None)?;
-    assert_eq!(rt; told(alloc, &there)?.as_str(), "metadata");
-    assert_eq!(rt; told(alloc, &gone)?.as_str(), "no transaction 1");
+    Ok(Write::DropMeta { target, name })
+}
+
+#[test]
+fn metadata_are_taken_from_what_is_there(rt: HostRuntime) -> Result<(), Fail> {
+    let alloc = rt.alloc();
+    let write = dropping(alloc)?;
+    let original = original(alloc)?;
+    let there = outcome(alloc, &write, &looked(Some(&original), None), None)?;
+    assert_eq!(rt; there.as_str(), "metadata");
+    let gone = outcome(alloc, &write, &looked(None, None), None)?;
+    assert_eq!(rt; gone.as_str(), "no transaction 1");
     Ok(())
+}
+
+fn first_body(alloc: Global, date: &i64) -> Result<EntryBody, Fail> {
+    let write = creation(alloc, one(alloc, b"world", b"users:1", 100)?, None);
+    let mut nothing = looked(None, None);
+    nothing.transactions = 0;
+    match decide_write(alloc, date, &write, &nothing, None)? {
+        Decided::Granted(body) => Ok(body),
+        Decided::Denied(_) => Err(Fail::from("refused")),
+    }
 }
 
 #[test]
 fn the_first_entry_is_sealed(rt: HostRuntime) -> Result<(), Fail> {
-    let alloc = rt.alloc();
     let date = 1_704_067_200_000_000;
-    let write = creation(alloc, one(alloc, b"world", b"users:1", 100)?, None);
-    let mut nothing = looked(None, None);
-    nothing.transactions = 0;
-    let Decided::Granted(body) = decide_write(alloc, &date, &write, &nothing, None)? else {
-        return Err(Fail::from("refused"));
-    };
-    let entry = new_entry(0, None, &date, None, body);
-    assert_eq!(rt; entry.id, 1);
+    let entry = new_entry(0, None, &date, None, first_body(rt.alloc(), &date)?);
     assert_eq!(rt;
         entry.hash,
         [
