@@ -5,6 +5,8 @@ mod amount_parts;
 mod amounts;
 mod codes;
 mod elements;
+mod entry_bodies;
+mod entry_lines;
 mod escaped_feed;
 mod exports;
 mod kind;
@@ -28,6 +30,7 @@ mod views;
 mod writes;
 
 pub use elements::elements_of_json;
+pub use entry_lines::entry_of_json;
 pub use exports::feed_lines;
 pub use kind::WriteKind;
 pub use lg_base::NoMemory;
