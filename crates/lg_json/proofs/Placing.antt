@@ -1,11 +1,13 @@
 -- An index of names, as one more name comes.
-use Rattle.std.proofs.Common.{◌≡◌, ◌⊎◌, inl, inr, ℕ, ◌+◌, ◌-◌, ◌*◌, ◌%◌, ◌^◌, ◌<◌, ◌≤◌, Bool, true, false, ◌==◌, ◌||◌, cond, List, [], ◌∷◌, ◌++◌, length, drop, take, replicate, get_or, set, Option, Some, None, refl, sym, ap, ◌∙◌, subst, arith, length-append}
+use Rattle.std.proofs.Common.{◌≡◌, ◌⊎◌, inl, inr, ℕ, ◌+◌, ◌-◌, ◌*◌, ◌/◌, ◌%◌, ◌^◌, ◌<◌, ◌≤◌, Bool, true, false, ◌==◌, ◌||◌, cond, List, [], ◌∷◌, ◌++◌, length, drop, take, replicate, get_or, set, Option, Some, None, refl, sym, ap, ◌∙◌, subst, arith, length-append}
+use Rattle.std.proofs.Math.Nat.{mul_comm, mul-lt-mul_of_pos_left}
 use Rattle.std.proofs.Math.Seq.{get_or-append_seam}
 use Rattle.std.proofs.lemmas.List.{get_or_append_left, get_or-set_same, get_or-set_other, get_or-replicate, get_or_past, length-replicate, length-set, length-map, drop_more, drop_all, map_more, get_or-map}
 use Rattle.std.proofs.lemmas.List.Folds.{list_any-append}
+use Rattle.std.proofs.lemmas.Nat.{div_below, mul-lt}
 use Rattle.std.proofs.lemmas.Bool.{cases_eq, cases_lt, cond-false, ne_eqb, false_from_ne_true}
 use Rattle.std.proofs.lemmas.Slice.Eq.{bytes_eq-Decides}
-use Rattle.lg_json.specs.Places.{names_view, has, number_from, slot_of, place_of, slot_place, Comes, set_has, AreFree, IsIndexed, IsAdded}
+use Rattle.lg_json.specs.Places.{names_view, has, number_from, name_number, other_number, slot_of, place_of, slot_place, Comes, set_has, AreFree, IsIndexed, IsAdded}
 use Rattle.lg_json.specs.Reading.{has_name}
 use Rattle.lg_json.specs.Tree.{entry}
 use Rattle.lg_json.specs.View.{entries_view}
@@ -122,7 +124,7 @@ other_name names known grown f others more name i c up finds adds =
         go false t = grown_known known grown name q up (c.among q (ap (λ b. cond b true (others q)) (sym t) ∙ sym (adds q) ∙ e))
 
 -- the number of a name, byte by byte
-pub number_more : (name : List ℕ) (n i : ℕ) → i < length name → number_from n (drop i name) ≡ number_from (((n * 1099511628211) % 2 ^ 64 + get_or name i 0) % 2 ^ 64) (drop (i + 1) name)
+pub number_more : (name : List ℕ) (n i : ℕ) → i < length name → number_from n (drop i name) ≡ number_from (((n + get_or name i 0) % 2 ^ 64 * 11400714819323198485) % 2 ^ 64) (drop (i + 1) name)
 unfolding number_from
 number_more name n i h = ap (number_from n) (drop_more name i 0 h)
 
@@ -136,20 +138,20 @@ has_members [] q = refl
 has_members (m ∷ ms) q = ap (λ b. bytes_eq (entry m).0 q || b) (has_members ms q)
 
 -- a slot that was free is the name's
-pub slot_taken : (slots : List ℕ) (name : List ℕ) (n s : ℕ) → 0 < length slots → s ≡ slot_of name (length slots) → s < length slots → get_or slots s 0 ≡ 0 → (q : List ℕ)
-    → ((slot_place (set slots s (n + 1)) q ≡ slot_place slots q) × (bytes_eq name q ≡ false)) ⊎ ((slot_place (set slots s (n + 1)) q ≡ Some n) × (slot_place slots q ≡ None))
-slot_taken slots name n s some is within free q = go (cases_eq s (slot_of q (length slots)))
+pub slot_taken : (f : List ℕ → ℕ) (slots : List ℕ) (name : List ℕ) (n s : ℕ) → 0 < length slots → s ≡ slot_of (f name) (length slots) → s < length slots → get_or slots s 0 ≡ 0 → (q : List ℕ)
+    → ((slot_place f (set slots s (n + 1)) q ≡ slot_place f slots q) × (bytes_eq name q ≡ false)) ⊎ ((slot_place f (set slots s (n + 1)) q ≡ Some n) × (slot_place f slots q ≡ None))
+slot_taken f slots name n s some is within free q = go (cases_eq s (slot_of (f q) (length slots)))
   where
     same_length : length (set slots s (n + 1)) ≡ length slots
     same_length = length-set slots s (n + 1)
 
-    moved : slot_place (set slots s (n + 1)) q ≡ place_of (get_or (set slots s (n + 1)) (slot_of q (length slots)) 0)
-    moved = ap (λ k. place_of (get_or (set slots s (n + 1)) (slot_of q k) 0)) same_length
+    moved : slot_place f (set slots s (n + 1)) q ≡ place_of (get_or (set slots s (n + 1)) (slot_of (f q) (length slots)) 0)
+    moved = ap (λ k. place_of (get_or (set slots s (n + 1)) (slot_of (f q) k) 0)) same_length
 
     one_more : place_of (n + 1) ≡ Some n
     one_more = cond-false (n + 1 == 0) None (Some (n + 1 - 1)) (ne_eqb (n + 1) 0 (λ e. omega arith)) ∙ ap Some (omega arith)
 
-    go : (s ≡ slot_of q (length slots)) ⊎ (s ≡ slot_of q (length slots) → ⊥) → ((slot_place (set slots s (n + 1)) q ≡ slot_place slots q) × (bytes_eq name q ≡ false)) ⊎ ((slot_place (set slots s (n + 1)) q ≡ Some n) × (slot_place slots q ≡ None))
+    go : (s ≡ slot_of (f q) (length slots)) ⊎ (s ≡ slot_of (f q) (length slots) → ⊥) → ((slot_place f (set slots s (n + 1)) q ≡ slot_place f slots q) × (bytes_eq name q ≡ false)) ⊎ ((slot_place f (set slots s (n + 1)) q ≡ Some n) × (slot_place f slots q ≡ None))
     go (inl e) =
         inr (
           moved ∙ ap (λ k. place_of (get_or (set slots s (n + 1)) k 0)) (sym e) ∙ ap place_of (get_or-set_same slots s (n + 1) 0 within) ∙ one_more,
@@ -157,21 +159,21 @@ slot_taken slots name n s some is within free q = go (cases_eq s (slot_of q (len
         )
     go (inr d) =
         inl (
-          moved ∙ ap place_of (get_or-set_other slots s (slot_of q (length slots)) (n + 1) 0 (λ e. d (sym e))),
-          false_from_ne_true (bytes_eq name q) (λ t. d (is ∙ ap (λ m. slot_of m (length slots)) (equal_names name q t))),
+          moved ∙ ap place_of (get_or-set_other slots s (slot_of (f q) (length slots)) (n + 1) 0 (λ e. d (sym e))),
+          false_from_ne_true (bytes_eq name q) (λ t. d (is ∙ ap (λ m. slot_of (f m) (length slots)) (equal_names name q t))),
         )
 
 -- the place of the name, where its slot is taken
-pub finds : (slots : List ℕ) (name : List ℕ) (s taken : ℕ) → s ≡ slot_of name (length slots) → taken ≡ get_or slots s 0 → (taken ≡ 0 → ⊥) → slot_place slots name ≡ Some (taken - 1)
-finds slots name s taken is e n =
+pub finds : (f : List ℕ → ℕ) (slots : List ℕ) (name : List ℕ) (s taken : ℕ) → s ≡ slot_of (f name) (length slots) → taken ≡ get_or slots s 0 → (taken ≡ 0 → ⊥) → slot_place f slots name ≡ Some (taken - 1)
+finds f slots name s taken is e n =
     ap (λ k. place_of (get_or slots k 0)) (sym is) ∙ ap place_of (sym e) ∙ cond-false (taken == 0) None (Some (taken - 1)) (ne_eqb taken 0 n)
 
 -- a free slot
-pub added_new : (names : List (List ℕ)) (name : List ℕ) (slots : List ℕ) (known grown others : List ℕ → Bool) (s : ℕ) → Comes known names (slot_place slots) others → Grows known grown name → 0 < length slots → s ≡ slot_of name (length slots) → s < length slots → get_or slots s 0 ≡ 0
-    → (known name ≡ false) × Comes grown (names ++ name ∷ []) (slot_place (set slots s (length names + 1))) others
-added_new names name slots known grown others s c up some is within free = (
+pub added_new : (f : List ℕ → ℕ) (names : List (List ℕ)) (name : List ℕ) (slots : List ℕ) (known grown others : List ℕ → Bool) (s : ℕ) → Comes known names (slot_place f slots) others → Grows known grown name → 0 < length slots → s ≡ slot_of (f name) (length slots) → s < length slots → get_or slots s 0 ≡ 0
+    → (known name ≡ false) × Comes grown (names ++ name ∷ []) (slot_place f (set slots s (length names + 1))) others
+added_new f names name slots known grown others s c up some is within free = (
   c.absent name (ap (λ k. place_of (get_or slots k 0)) (sym is) ∙ ap place_of free),
-  new_place names known grown (slot_place slots) (slot_place (set slots s (length names + 1))) others name c up (slot_taken slots name (length names) s some is within free),
+  new_place names known grown (slot_place f slots) (slot_place f (set slots s (length names + 1))) others name c up (slot_taken f slots name (length names) s some is within free),
 )
 
 -- the name stands in its slot
@@ -210,16 +212,16 @@ zeros n i = go (cases_lt i n)
     go (inl h) = get_or-replicate n i 0 0 h
     go (inr h) = get_or_past (replicate n 0) i 0 (omega (arith, length-replicate {A = ℕ} n 0))
 
-pub no_names : (known others : List ℕ → Bool) (slots : List ℕ) → AreFree slots → ((q : List ℕ) → known q ≡ false) → ((q : List ℕ) → others q ≡ false) → Comes known [] (slot_place slots) others
-no_names known others slots free none no_others =
+pub no_names : (f : List ℕ → ℕ) (known others : List ℕ → Bool) (slots : List ℕ) → AreFree slots → ((q : List ℕ) → known q ≡ false) → ((q : List ℕ) → others q ≡ false) → Comes known [] (slot_place f slots) others
+no_names f known others slots free none no_others =
     record { within = λ q i e. absurd (not_placed q i e); absent = λ q e. none q; present = λ q i e. absurd (not_placed q i e); among = λ q e. let f : others q ≡ false = no_others q in absurd cc }
   where
-    not_placed : (q : List ℕ) (i : ℕ) → slot_place slots q ≡ Some i → ⊥
-    not_placed q i e = let f : slot_place slots q ≡ None = ap place_of (free (slot_of q (length slots))) in cc
+    not_placed : (q : List ℕ) (i : ℕ) → slot_place f slots q ≡ Some i → ⊥
+    not_placed q i e = let f : slot_place f slots q ≡ None = ap place_of (free (slot_of (f q) (length slots))) in cc
 
 pub empty_index : (index : NameIndex) → AreFree index.first.items → AreFree index.second.items → 0 < length index.first.items → 0 < length index.second.items → IsEmpty index.others → IsIndexed [] index
 empty_index index a b p q none =
-    record { some = p; more = q; known = λ name. false; comes = no_names (λ name. has name []) (λ name. false) index.first.items a (λ name. refl) (λ name. refl); rest = no_names (λ name. false) (set_has index.others) index.second.items b (λ name. refl) (λ name. ap (λ ks. list_any (λ k. is_eq (slice_cmp nat_cmp name k)) ks) none) }
+    record { some = p; more = q; known = λ name. false; comes = no_names name_number (λ name. has name []) (λ name. false) index.first.items a (λ name. refl) (λ name. refl); rest = no_names other_number (λ name. false) (set_has index.others) index.second.items b (λ name. refl) (λ name. ap (λ ks. list_any (λ k. is_eq (slice_cmp nat_cmp name k)) ks) none) }
 
 -- a set of names with one more
 pub set_adds : (before after : BTreeSet (List ℕ)) (name : List ℕ) → Updates (slice_cmp nat_cmp) before after name true → (q : List ℕ) → set_has after q ≡ cond (bytes_eq name q) true (set_has before q)
@@ -263,3 +265,11 @@ new_name ms seen name is_new index same e l =
 pub scanned : (ms seen : List Member) (name bytes : List ℕ) (r b : Bool) → seen ≡ ms → bytes ≡ name → r ≡ has bytes (names_view seen) → r ≡ b → has_name name (entries_view ms) ≡ b
 scanned ms seen name bytes r b same equal is e =
     sym (has_members ms name) ∙ ap (λ ns. has name (names_view ns)) (sym same) ∙ ap (λ n. has n (names_view seen)) (sym equal) ∙ sym is ∙ e
+
+-- a slot is one of the slots
+pub slot_within : (number count : ℕ) → number < 2 ^ 64 → 0 < count → slot_of number count < count
+slot_within number count n some = div_below (number * count) (2 ^ 64) count (omega arith) (subst (λ k. k < count * 2 ^ 64) (mul_comm count number) (mul-lt-mul_of_pos_left n some))
+
+-- no product of two numbers of 64 bits is too wide
+pub product_within : (number count : ℕ) → number < 2 ^ 64 → count < 2 ^ 64 → number * count < 2 ^ 128
+product_within number count n c = mul-lt number count (2 ^ 64) (2 ^ 64) n c

@@ -1,5 +1,5 @@
 -- An index of the names of an object's members.
-use Rattle.std.specs.Prelude.{◌≡◌, ℕ, ◌+◌, ◌-◌, ◌*◌, ◌%◌, ◌^◌, ◌<◌, Bool, true, false, ◌==◌, ◌||◌, not, if◌then◌else◌, List, [], ◌∷◌, ◌++◌, length, map, slice_index_or, bytes_eq, Option, Some, None}
+use Rattle.std.specs.Prelude.{◌≡◌, ℕ, ◌+◌, ◌-◌, ◌*◌, ◌/◌, ◌%◌, ◌^◌, ◌<◌, Bool, true, false, ◌==◌, ◌||◌, not, if◌then◌else◌, List, [], ◌∷◌, ◌++◌, length, map, slice_index_or, bytes_eq, Option, Some, None}
 use Rattle.std.specs.List.{list_any}
 use Rattle.std.specs.Cmp.Lexicographic.{slice_cmp}
 use Rattle.std.specs.Ordering.{nat_cmp}
@@ -18,21 +18,28 @@ has name names = list_any (λ n. bytes_eq n name) names
 -- the number that bytes write after the number n, of 64 bits
 unfoldable pub number_from : ℕ → List ℕ → ℕ
 number_from n [] = n
-number_from n (b ∷ bs) = number_from (((n * 1099511628211) % 2 ^ 64 + b) % 2 ^ 64) bs
+number_from n (b ∷ bs) = number_from (((n + b) % 2 ^ 64 * 11400714819323198485) % 2 ^ 64) bs
 
 abbrev pub name_number : List ℕ → ℕ
 name_number name = number_from 0 name
 
-abbrev pub slot_of : List ℕ → ℕ → ℕ
-slot_of name count = name_number name % count
+abbrev pub mixed : ℕ → ℕ
+mixed n = (n * 15485907386658061715) % 2 ^ 64
+
+abbrev pub other_number : List ℕ → ℕ
+other_number name = mixed (name_number name)
+
+-- the slots are as far along as the number is among those of 64 bits
+abbrev pub slot_of : ℕ → ℕ → ℕ
+slot_of number count = number * count / 2 ^ 64
 
 -- a slot's place, where it is taken
 abbrev pub place_of : ℕ → Option ℕ
 place_of n = if n == 0 then None else Some (n - 1)
 
--- the place that a name finds in its slot
-abbrev pub slot_place : List ℕ → List ℕ → Option ℕ
-slot_place slots name = place_of (slice_index_or slots (slot_of name (length slots)) 0)
+-- the place that a name finds in its slot, by a number of names
+abbrev pub slot_place : (List ℕ → ℕ) → List ℕ → List ℕ → Option ℕ
+slot_place number slots name = place_of (slice_index_or slots (slot_of (number name) (length slots)) 0)
 
 -- what `known` says of each name comes of one place, of which there may be none, and of what `others` says
 pub record Comes (known : List ℕ → Bool) (names : List (List ℕ)) (place : List ℕ → Option ℕ) (others : List ℕ → Bool) : Type 0 where
@@ -46,7 +53,7 @@ set_has set name = contains (slice_cmp nat_cmp) set name
 
 -- slots and a set that tell some of the names from every other name
 abbrev pub IsFilled : List (List ℕ) → List ℕ → BTreeSet (List ℕ) → Type 0
-IsFilled names slots others = (0 < length slots) × (known : List ℕ → Bool) × Comes known names (slot_place slots) (set_has others)
+IsFilled names slots others = (0 < length slots) × (known : List ℕ → Bool) × Comes known names (slot_place other_number slots) (set_has others)
 
 abbrev pub known_with : (List ℕ → Bool) → List ℕ → List ℕ → Bool
 known_with known name q = known q || bytes_eq name q
@@ -54,7 +61,7 @@ known_with known name q = known q || bytes_eq name q
 -- the same after one more name of theirs: whether it is new among them
 abbrev pub Fills : List (List ℕ) → List ℕ → List ℕ → BTreeSet (List ℕ) → List ℕ → BTreeSet (List ℕ) → Bool → Type 0
 Fills names name slots others more_slots more_others is_new =
-    (0 < length more_slots) × ((known : List ℕ → Bool) → Comes known names (slot_place slots) (set_has others) → (known name ≡ not is_new) × Comes (known_with known name) (names ++ name ∷ []) (slot_place more_slots) (set_has more_others))
+    (0 < length more_slots) × ((known : List ℕ → Bool) → Comes known names (slot_place other_number slots) (set_has others) → (known name ≡ not is_new) × Comes (known_with known name) (names ++ name ∷ []) (slot_place other_number more_slots) (set_has more_others))
 
 -- no name has a slot
 abbrev pub AreFree : List ℕ → Type 0
@@ -65,8 +72,8 @@ pub record IsIndexed (names : List (List ℕ)) (index : NameIndex) : Type 0 wher
   pub some : 0 < length index.first.items
   pub more : 0 < length index.second.items
   pub known : List ℕ → Bool
-  pub comes : Comes (λ name. has name names) names (slot_place index.first.items) known
-  pub rest : Comes known names (slot_place index.second.items) (set_has index.others)
+  pub comes : Comes (λ name. has name names) names (slot_place name_number index.first.items) known
+  pub rest : Comes known names (slot_place other_number index.second.items) (set_has index.others)
 
 -- the index after one more name: whether it is new
 abbrev pub IsAdded : List (List ℕ) → List ℕ → Bool → NameIndex → Type 0

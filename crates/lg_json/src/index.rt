@@ -1,5 +1,5 @@
 //! An index of the names of an object's members, by which a name is found among many.
-ghost use Rattle.std.specs.Prelude.{◌≡◌, [], ◌<◌, length, drop, slice_index_or, bytes_eq, IfOk};
+ghost use Rattle.std.specs.Prelude.{◌≡◌, ◌+◌, [], ◌<◌, ◌≤◌, ◌↔◌, length, drop, slice_index_or, bytes_eq, IfOk, IsTrue};
 ghost use Rattle.lg_json.specs.Places as index;
 ghost use Rattle.lg_json.specs.Places.{IsIndexed, IsAdded, IsCovering, IsFilled, Fills, AreFree, names_view, has};
 
@@ -9,7 +9,10 @@ use std::alloc::{AllocError, Global};
 use std::collections::BTreeSet;
 
 /// Among fewer members a name is looked for one by one.
-pub const FEW: usize = 8;
+const FEW: usize = 8;
+
+/// So many members, or more, have no index, since a slot has 32 bits.
+const TOO_MANY: usize = 0xFFFF_FFFF;
 
 /// The least number of slots.
 const LEAST_SLOTS: usize = 64;
@@ -21,33 +24,48 @@ const SLOTS_A_MEMBER: usize = 4;
 /// whose name has it, and 0 where it is free.
 #[derive(Drop)]
 pub struct NameIndex {
-    first: Vec<usize>,
+    first: Vec<u32>,
     /// The slots of the names that found another name in their first.
-    second: Vec<usize>,
+    second: Vec<u32>,
     /// The names that found another name in both.
     others: BTreeSet<Text>,
 }
 
-/// A number that is mostly different for different names.
+/// Whether the names of so many members are found by an index.
+pub fn is_indexed(members: usize) -> bool
+    ensures { IsTrue result ↔ (8 ≤ members) × (members < 0xFFFF_FFFF) }
+{
+    members >= FEW && members < TOO_MANY
+}
+
+/// A number whose upper bits are mostly different for different names.
 fn name_number(name: &[u8]) -> u64
     ensures { result ≡ index.name_number name.now }
 {
     let mut number = 0u64;
     for byte in name {
         number = number
-            .wrapping_mul(0x100_0000_01B3)
-            .wrapping_add(*byte as u64);
+            .wrapping_add(*byte as u64)
+            .wrapping_mul(0x9E37_79B9_7F4A_7C15);
     }
     number
 }
 
-/// The slot of a name among so many.
-fn slot_of(name: &[u8], count: usize) -> usize
+/// Another number for the same name, by which names with near numbers are far from one another.
+fn other_number(number: u64) -> u64
+    ensures { result ≡ index.mixed number }
+{
+    number.wrapping_mul(0xD6E8_FEB8_6659_FD93)
+}
+
+/// The slot of a number among so many, in the order of the numbers: so no division is needed.
+#[tactic(auto, using(crate::proofs::Placing::slot_within, crate::proofs::Placing::product_within))]
+fn slot_of(number: u64, count: usize) -> usize
     requires { 0 < count }
-    ensures value { result ≡ index.slot_of name.now count }
+    ensures value { result ≡ index.slot_of number count }
     ensures within { result < count }
 {
-    (name_number(name) % count as u64) as usize
+    (number as u128 * count as u128 / 0x1_0000_0000_0000_0000) as usize
 }
 
 /// The name of the member at the place.
@@ -85,7 +103,7 @@ pub fn has_name(name: &[u8], members: &[Member]) -> bool
 }
 
 #[tactic(auto, using(crate::proofs::Placing::zeros))]
-fn free_slots(alloc: Global, count: usize) -> Result<Vec<usize>, AllocError>
+fn free_slots(alloc: Global, count: usize) -> Result<Vec<u32>, AllocError>
     requires { 0 < count }
     ensures some { IfOk result (λ slots. 0 < length slots.items) }
     ensures free { IfOk result (λ slots. AreFree slots.items) }
@@ -95,25 +113,36 @@ fn free_slots(alloc: Global, count: usize) -> Result<Vec<usize>, AllocError>
     Ok(slots)
 }
 
+/// The number of the members and one more, as a slot holds it.
+fn one_more(members: &[Member]) -> u32
+    requires { length members.now < 0xFFFF_FFFF }
+    ensures { result ≡ length members.now + 1 }
+{
+    (members.len() + 1) as u32
+}
+
 /// Adds the name of the member that comes next, whose first slot is that of another name, and says
-/// whether it is new.
+/// whether it is new. The number is the name's other one.
 fn add_other(
     alloc: Global,
     members: &[Member],
-    slots: &mut Vec<usize>,
+    slots: &mut Vec<u32>,
     others: &mut BTreeSet<Text>,
     name: &Text,
+    number: u64,
 ) -> Result<bool, AllocError>
-    requires { IsFilled (names_view members.now) slots.old.items others.old }
+    requires filled { IsFilled (names_view members.now) slots.old.items others.old }
+    requires number { number ≡ index.other_number name.now }
+    requires room { length members.now < 0xFFFF_FFFF }
     ensures { IfOk result (λ is_new. Fills (names_view members.now) name.now slots.old.items others.old slots.new.items others.new is_new) }
 {
-    let slot = slot_of(name.bytes(), slots.len());
+    let slot = slot_of(number, slots.len());
     let taken = slots[slot];
     if taken == 0 {
-        slots[slot] = members.len() + 1;
+        slots[slot] = one_more(members);
         return Ok(true);
     }
-    if is_named(members, taken - 1, name.bytes()) {
+    if is_named(members, taken as usize - 1, name.bytes()) {
         return Ok(false);
     }
     let is_new = others.insert(name.copy(alloc)?)?;
@@ -126,7 +155,7 @@ impl NameIndex {
         ensures { IfOk result (IsIndexed []) }
     {
         let first = free_slots(alloc, count)?;
-        let second = free_slots(alloc, count / 8 * 7 + 1)?;
+        let second = free_slots(alloc, count)?;
         Ok(NameIndex {
             first,
             second,
@@ -141,19 +170,29 @@ impl NameIndex {
 
     /// Adds the name of the member that comes next, and says whether it is new.
     fn add(&mut self, alloc: Global, members: &[Member], name: &Text) -> Result<bool, AllocError>
-        requires { IsIndexed (names_view members.now) self.old }
+        requires indexed { IsIndexed (names_view members.now) self.old }
+        requires room { length members.now < 0xFFFF_FFFF }
         ensures { IfOk result (λ is_new. IsAdded (names_view members.now) name.now is_new self.new) }
     {
-        let slot = slot_of(name.bytes(), self.first.len());
+        let number = name_number(name.bytes());
+        let slot = slot_of(number, self.first.len());
         let taken = self.first[slot];
         if taken == 0 {
-            self.first[slot] = members.len() + 1;
+            self.first[slot] = one_more(members);
             return Ok(true);
         }
-        if is_named(members, taken - 1, name.bytes()) {
+        if is_named(members, taken as usize - 1, name.bytes()) {
             return Ok(false);
         }
-        let is_new = add_other(alloc, members, &mut self.second, &mut self.others, name)?;
+        let number = other_number(number);
+        let is_new = add_other(
+            alloc,
+            members,
+            &mut self.second,
+            &mut self.others,
+            name,
+            number,
+        )?;
         Ok(is_new)
     }
 }
@@ -165,7 +204,8 @@ pub fn look_up(
     index: Option<NameIndex>,
     name: &Text,
 ) -> Result<(bool, NameIndex), AllocError>
-    requires { IsCovering (names_view members.now) index }
+    requires covering { IsCovering (names_view members.now) index }
+    requires room { length members.now < 0xFFFF_FFFF }
     ensures { IfOk result (λ p. IsAdded (names_view members.now) name.now p.0 p.1) }
 {
     let mut index = ready_index(alloc, members, index)?;
@@ -179,7 +219,8 @@ fn ready_index(
     members: &[Member],
     index: Option<NameIndex>,
 ) -> Result<NameIndex, AllocError>
-    requires { IsCovering (names_view members.now) index }
+    requires covering { IsCovering (names_view members.now) index }
+    requires room { length members.now < 0xFFFF_FFFF }
     ensures { IfOk result (IsIndexed (names_view members.now)) }
 {
     match index {
@@ -195,6 +236,7 @@ fn ready_index(
 
 /// An index of the names of the members.
 fn index_names(alloc: Global, members: &[Member]) -> Result<NameIndex, AllocError>
+    requires { length members.now < 0xFFFF_FFFF }
     ensures { IfOk result (IsIndexed (names_view members.now)) }
 {
     let count = members

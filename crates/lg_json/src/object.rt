@@ -1,8 +1,8 @@
 //! An object that is open.
-ghost use Rattle.std.specs.Prelude.{◌≡◌, [], None, IfOk, IsSome, IsTrue, ◌↔◌};
+ghost use Rattle.std.specs.Prelude.{◌≡◌, [], None, IfOk, IsSome, IsTrue, ◌↔◌, ◌<◌, length};
 ghost use Rattle.lg_json.specs.View.{IsNamed, IsCompleted};
 
-use crate::index::{FEW, NameIndex, has_name, look_up};
+use crate::index::{NameIndex, has_name, is_indexed, look_up};
 use crate::json::{Json, Member};
 use lg_containers::Text;
 use sqlite_items::Items;
@@ -58,20 +58,21 @@ impl OpenObject {
         requires { self.old.1 ≡ None }
         ensures { IfOk result (IsNamed self.old.0 name self.new) }
     {
-        if self.members.len() < FEW {
-            if has_name(name.bytes(), self.members.as_slice()) {
-                return Ok(false);
-            }
-            self.index = None;
-            self.waiting = Some(name);
-            return Ok(true);
+        if is_indexed(self.members.len()) {
+            return self.name_among_many(alloc, name);
         }
-        self.name_among_many(alloc, name)
+        if has_name(name.bytes(), self.members.as_slice()) {
+            return Ok(false);
+        }
+        self.index = None;
+        self.waiting = Some(name);
+        Ok(true)
     }
 
     /// The same by an index.
     fn name_among_many(&mut self, alloc: Global, name: Text) -> Result<bool, AllocError>
-        requires { self.old.1 ≡ None }
+        requires none { self.old.1 ≡ None }
+        requires room { length self.old.0 < 0xFFFF_FFFF }
         ensures { IfOk result (IsNamed self.old.0 name self.new) }
     {
         let index = self.index.take();

@@ -43,6 +43,10 @@ fn faults_stand_at_their_places(rt: HostRuntime) {
     );
     assert_eq!(rt; fault_of(alloc, b""), syntax(0));
     assert_eq!(rt;
+        fault_of(alloc, &[b'['; 65]),
+        JsonFault::TooDeep { place: 64 }
+    );
+    assert_eq!(rt;
         fault_of(alloc, b"[170141183460469231731687303715884105728]"),
         JsonFault::TooWide { place: 1 }
     );
@@ -219,4 +223,119 @@ fn copies_are_whole(rt: HostRuntime) -> Result<(), Fail> {
     assert!(rt; is_sample(&value));
     assert!(rt; is_sample(&value.copy(alloc)?));
     Ok(())
+}
+
+#[test]
+fn syntax_faults_at_the_start_inside_and_at_the_end(rt: HostRuntime) {
+    let alloc = rt.alloc();
+    assert_eq!(rt; fault_of(alloc, b"]"), syntax(0));
+    assert_eq!(rt; fault_of(alloc, b"[1,,2]"), syntax(3));
+    assert_eq!(rt; fault_of(alloc, b"[1"), syntax(2));
+    assert_eq!(rt; fault_of(alloc, b"{\"a\":1}x"), syntax(7));
+}
+
+#[test]
+fn parts_of_numbers_at_the_start_inside_and_at_the_end(rt: HostRuntime) {
+    let alloc = rt.alloc();
+    assert_eq!(rt; fault_of(alloc, b"1.5 "), JsonFault::NotWhole { place: 0 });
+    assert_eq!(rt;
+        fault_of(alloc, b"[1,2e3,4]"),
+        JsonFault::NotWhole { place: 3 }
+    );
+    assert_eq!(rt;
+        fault_of(alloc, b"[1,{\"a\":2E0"),
+        JsonFault::NotWhole { place: 8 }
+    );
+}
+
+#[test]
+fn wide_numbers_at_the_start_inside_and_at_the_end(rt: HostRuntime) {
+    let alloc = rt.alloc();
+    assert_eq!(rt;
+        fault_of(alloc, b"170141183460469231731687303715884105728]"),
+        JsonFault::TooWide { place: 0 }
+    );
+    assert_eq!(rt;
+        fault_of(alloc, b"[1,170141183460469231731687303715884105728,2]"),
+        JsonFault::TooWide { place: 3 }
+    );
+    assert_eq!(rt;
+        fault_of(alloc, b"{\"a\":-170141183460469231731687303715884105729"),
+        JsonFault::TooWide { place: 5 }
+    );
+}
+
+#[test]
+fn too_many_open_inside_and_at_the_end(rt: HostRuntime) -> Result<(), Fail> {
+    let alloc = rt.alloc();
+    let mut inside = Vec::new(alloc);
+    inside.extend_from_slice(b"[1,")?;
+    inside.extend_from_slice(&[b'['; 64])?;
+    inside.extend_from_slice(&[b']'; 65])?;
+    assert_eq!(rt;
+        fault_of(alloc, inside.as_slice()),
+        JsonFault::TooDeep { place: 66 }
+    );
+    let mut end = Vec::new(alloc);
+    for _ in 0..64u8 {
+        end.extend_from_slice(b"{\"a\":")?;
+    }
+    end.push(b'{')?;
+    assert_eq!(rt;
+        fault_of(alloc, end.as_slice()),
+        JsonFault::TooDeep { place: 320 }
+    );
+    Ok(())
+}
+
+#[test]
+fn repeated_names_at_the_start_inside_and_at_the_end(rt: HostRuntime) {
+    let alloc = rt.alloc();
+    assert_eq!(rt;
+        fault_of(alloc, b"{\"\":0,\"\":1}"),
+        JsonFault::Repeated { place: 6 }
+    );
+    assert_eq!(rt;
+        fault_of(alloc, b"[{\"a\":1,\"b\":2,\"a\":3},4]"),
+        JsonFault::Repeated { place: 14 }
+    );
+    assert_eq!(rt;
+        fault_of(alloc, b"{\"a\":{\"b\":1,\"b\""),
+        JsonFault::Repeated { place: 12 }
+    );
+}
+
+#[test]
+fn characters_end_at_the_edges_of_utf8(rt: HostRuntime) {
+    let alloc = rt.alloc();
+    assert!(rt; is_text(alloc, b"\"\xC2\x80\xDF\xBF\"", b"\xC2\x80\xDF\xBF"));
+    assert!(rt;
+        is_text(
+            alloc,
+            b"\"\xE0\xA0\x80\xED\x9F\xBF\xEE\x80\x80\"",
+            b"\xE0\xA0\x80\xED\x9F\xBF\xEE\x80\x80"
+        )
+    );
+    assert!(rt;
+        is_text(
+            alloc,
+            b"\"\xF0\x90\x80\x80\xF4\x8F\xBF\xBF\"",
+            b"\xF0\x90\x80\x80\xF4\x8F\xBF\xBF"
+        )
+    );
+    assert_eq!(rt; fault_of(alloc, b"\"\xC1\xBF\""), syntax(1));
+    assert_eq!(rt; fault_of(alloc, b"\"\xE0\x9F\xBF\""), syntax(2));
+    assert_eq!(rt; fault_of(alloc, b"\"\xF0\x8F\xBF\xBF\""), syntax(2));
+    assert_eq!(rt; fault_of(alloc, b"\"\xED\xBF\xBF\""), syntax(2));
+    assert_eq!(rt; fault_of(alloc, b"\"\xF5\x80\x80\x80\""), syntax(1));
+}
+
+#[test]
+fn escapes_end_at_the_edges_of_surrogates(rt: HostRuntime) {
+    let alloc = rt.alloc();
+    assert!(rt; is_text(alloc, b"\"\\uD800\\uDC00\"", b"\xF0\x90\x80\x80"));
+    assert!(rt; is_text(alloc, b"\"\\uDBFF\\uDFFF\"", b"\xF4\x8F\xBF\xBF"));
+    assert!(rt; is_text(alloc, b"\"\\u0000\\uFFFF\"", b"\x00\xEF\xBF\xBF"));
+    assert_eq!(rt; fault_of(alloc, b"\"\\uD800"), syntax(7));
+    assert_eq!(rt; fault_of(alloc, b"\"\\uD83D\\uDE00"), syntax(13));
 }
