@@ -7,7 +7,7 @@ use Rattle.std.proofs.lemmas.List.Folds.{list_any-append}
 use Rattle.std.proofs.lemmas.Nat.{div_below, mul-lt}
 use Rattle.std.proofs.lemmas.Bool.{cases_eq, cases_lt, cond-false, ne_eqb, false_from_ne_true}
 use Rattle.std.proofs.lemmas.Slice.Eq.{bytes_eq-Decides}
-use Rattle.lg_json.specs.Places.{names_view, has, number_from, name_number, other_number, slot_of, place_of, slot_place, Comes, set_has, AreFree, IsIndexed, IsAdded}
+use Rattle.lg_json.specs.Places.{names_view, has, number_from, name_number, other_number, part_of, HaveParts, slot_of, place_of, slot_place, Comes, set_has, AreFree, IsIndexed, IsAdded, IsAddedTo}
 use Rattle.lg_json.specs.Reading.{has_name}
 use Rattle.lg_json.specs.Tree.{entry}
 use Rattle.lg_json.specs.View.{entries_view}
@@ -219,9 +219,9 @@ no_names f known others slots free none no_others =
     not_placed : (q : List ℕ) (i : ℕ) → slot_place f slots q ≡ Some i → ⊥
     not_placed q i e = let f : slot_place f slots q ≡ None = ap place_of (free (slot_of (f q) (length slots))) in cc
 
-pub empty_index : (index : NameIndex) → AreFree index.first.items → AreFree index.second.items → 0 < length index.first.items → 0 < length index.second.items → IsEmpty index.others → IsIndexed [] index
-empty_index index a b p q none =
-    record { some = p; more = q; known = λ name. false; comes = no_names name_number (λ name. has name []) (λ name. false) index.first.items a (λ name. refl) (λ name. refl); rest = no_names other_number (λ name. false) (set_has index.others) index.second.items b (λ name. refl) (λ name. ap (λ ks. list_any (λ k. is_eq (slice_cmp nat_cmp name k)) ks) none) }
+pub empty_index : (index : NameIndex) → index.parts.items ≡ [] → AreFree index.first.items → AreFree index.second.items → 0 < length index.first.items → 0 < length index.second.items → IsEmpty index.others → IsIndexed [] index
+empty_index index no_parts a b p q none =
+    record { count = ap length no_parts; parts = record { within = omega arith; same = λ i h. absurd (omega arith) }; some = p; more = q; known = λ name. false; comes = no_names name_number (λ name. has name []) (λ name. false) index.first.items a (λ name. refl) (λ name. refl); rest = no_names other_number (λ name. false) (set_has index.others) index.second.items b (λ name. refl) (λ name. ap (λ ks. list_any (λ k. is_eq (slice_cmp nat_cmp name k)) ks) none) }
 
 -- a set of names with one more
 pub set_adds : (before after : BTreeSet (List ℕ)) (name : List ℕ) → Updates (slice_cmp nat_cmp) before after name true → (q : List ℕ) → set_has after q ≡ cond (bytes_eq name q) true (set_has before q)
@@ -253,11 +253,13 @@ pub names_length : (ms : List Member) → length (names_view ms) ≡ length ms
 names_length ms = length-map ms (λ m. (entry m).0)
 
 -- what a look-up says of the members
-pub known_name : (ms seen : List Member) (name : List ℕ) (is_new : Bool) (index : NameIndex) → seen ≡ ms → is_new ≡ false → IsAdded (names_view seen) name is_new index → has_name name (entries_view ms) ≡ true
-known_name ms seen name is_new index same e l = sym (has_members ms name) ∙ ap (λ ns. has name (names_view ns)) (sym same) ∙ (subst (λ b. IsAdded (names_view seen) name b index) e l).0
+pub known_name : (ms seen : List Member) (name : List ℕ) (is_new : Bool) (index : Option NameIndex) → seen ≡ ms → is_new ≡ false → IsAddedTo (names_view seen) name is_new index → has_name name (entries_view ms) ≡ true
+known_name ms seen name is_new None same e l = absurd l
+known_name ms seen name is_new (Some index) same e l = sym (has_members ms name) ∙ ap (λ ns. has name (names_view ns)) (sym same) ∙ (subst (λ b. IsAdded (names_view seen) name b index) e l).0
 
-pub new_name : (ms seen : List Member) (name : List ℕ) (is_new : Bool) (index : NameIndex) → seen ≡ ms → is_new ≡ true → IsAdded (names_view seen) name is_new index → has_name name (entries_view ms) ≡ false
-new_name ms seen name is_new index same e l =
+pub new_name : (ms seen : List Member) (name : List ℕ) (is_new : Bool) (index : Option NameIndex) → seen ≡ ms → is_new ≡ true → IsAddedTo (names_view seen) name is_new index → has_name name (entries_view ms) ≡ false
+new_name ms seen name is_new None same e l = absurd l
+new_name ms seen name is_new (Some index) same e l =
     let looked : IsAdded (names_view seen) name true index = subst (λ b. IsAdded (names_view seen) name b index) e l in
     sym (has_members ms name) ∙ ap (λ ns. has name (names_view ns)) (sym same) ∙ looked.0
 
@@ -273,3 +275,32 @@ slot_within number count n some = div_below (number * count) (2 ^ 64) count (ome
 -- no product of two numbers of 64 bits is too wide
 pub product_within : (number count : ℕ) → number < 2 ^ 64 → count < 2 ^ 64 → number * count < 2 ^ 128
 product_within number count n c = mul-lt number count (2 ^ 64) (2 ^ 64) n c
+
+-- parts of numbers, with that of one more name
+pub parts_more : (names : List (List ℕ)) (parts : List ℕ) (name : List ℕ) (part : ℕ) → HaveParts names parts → length parts ≡ length names → part ≡ part_of (name_number name) → HaveParts (names ++ name ∷ []) (parts ++ part ∷ [])
+parts_more names parts name part h count is = record { within = omega (arith, length-append names (name ∷ []), length-append parts (part ∷ []), h.within); same = same }
+  where
+    same : (i : ℕ) → i < length (names ++ name ∷ []) → get_or (parts ++ part ∷ []) i 0 ≡ part_of (name_number (get_or (names ++ name ∷ []) i []))
+    same i b = go (cases_lt i (length names))
+      where
+        go : (i < length names) ⊎ (length names ≤ i) → get_or (parts ++ part ∷ []) i 0 ≡ part_of (name_number (get_or (names ++ name ∷ []) i []))
+        go (inl a) =
+            get_or_append_left parts (part ∷ []) 0 i (omega (arith, count, a)) ∙ h.same i a
+            ∙ ap (λ n. part_of (name_number n)) (sym (get_or_append_left names (name ∷ []) [] i a))
+        go (inr a) =
+            let last : i ≡ length names = omega (arith, length-append names (name ∷ []), a, b) in
+            let last_part : i ≡ length parts = omega (arith, last, count) in
+            ap (λ k. get_or (parts ++ part ∷ []) k 0) last_part ∙ get_or-append_seam parts part [] 0 ∙ is
+            ∙ ap (λ n. part_of (name_number n)) (sym (get_or-append_seam names name [] [])) ∙ ap (λ k. part_of (name_number (get_or (names ++ name ∷ []) k []))) (sym last)
+
+pub parts_still : (names : List (List ℕ)) (parts grown : List ℕ) (part : ℕ) → HaveParts names parts → grown ≡ parts ++ part ∷ [] → HaveParts names grown
+parts_still names parts grown part h e =
+    subst (HaveParts names) (sym e) (record { within = omega (arith, length-append parts (part ∷ []), h.within); same = λ i a. get_or_append_left parts (part ∷ []) 0 i (omega (arith, h.within, a)) ∙ h.same i a })
+
+-- a name of another part is another name
+pub other_part : (names : List (List ℕ)) (parts : List ℕ) (name : List ℕ) (i part : ℕ) → HaveParts names parts → i < length names → part ≡ part_of (name_number name) → (get_or parts i 0 ≡ part → ⊥) → bytes_eq (get_or names i []) name ≡ false
+other_part names parts name i part h b is differs =
+    false_from_ne_true (bytes_eq (get_or names i []) name) (λ t. differs (h.same i b ∙ ap (λ n. part_of (name_number n)) (equal_names (get_or names i []) name t) ∙ sym is))
+
+pub more_parts : (names : List (List ℕ)) (parts grown : List ℕ) (name : List ℕ) (part : ℕ) → HaveParts names parts → length parts ≡ length names → grown ≡ parts ++ part ∷ [] → part ≡ part_of (name_number name) → (length grown ≡ length (names ++ name ∷ [])) × HaveParts (names ++ name ∷ []) grown
+more_parts names parts grown name part h count e is = subst (λ g. (length g ≡ length (names ++ name ∷ [])) × HaveParts (names ++ name ∷ []) g) (sym e) (omega (arith, length-append parts (part ∷ []), length-append names (name ∷ []), count), parts_more names parts name part h count is)

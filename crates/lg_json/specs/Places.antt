@@ -1,5 +1,5 @@
 -- An index of the names of an object's members.
-use Rattle.std.specs.Prelude.{◌≡◌, ℕ, ◌+◌, ◌-◌, ◌*◌, ◌/◌, ◌%◌, ◌^◌, ◌<◌, Bool, true, false, ◌==◌, ◌||◌, not, if◌then◌else◌, List, [], ◌∷◌, ◌++◌, length, map, slice_index_or, bytes_eq, Option, Some, None}
+use Rattle.std.specs.Prelude.{◌≡◌, ℕ, ◌+◌, ◌-◌, ◌*◌, ◌/◌, ◌%◌, ◌^◌, ◌<◌, ◌≤◌, Bool, true, false, ◌==◌, ◌||◌, not, if◌then◌else◌, List, [], ◌∷◌, ◌++◌, length, map, slice_index_or, bytes_eq, Option, Some, None}
 use Rattle.std.specs.List.{list_any}
 use Rattle.std.specs.Cmp.Lexicographic.{slice_cmp}
 use Rattle.std.specs.Ordering.{nat_cmp}
@@ -22,6 +22,15 @@ number_from n (b ∷ bs) = number_from (((n + b) % 2 ^ 64 * 11400714819323198485
 
 abbrev pub name_number : List ℕ → ℕ
 name_number name = number_from 0 name
+
+-- the part of a name's number that is kept
+abbrev pub part_of : ℕ → ℕ
+part_of n = n % 2 ^ 32
+
+-- parts of the names' numbers, and maybe more
+pub record HaveParts (names : List (List ℕ)) (parts : List ℕ) : Type 0 where
+  pub within : length names ≤ length parts
+  pub same : (i : ℕ) → i < length names → slice_index_or parts i 0 ≡ part_of (name_number (slice_index_or names i []))
 
 abbrev pub mixed : ℕ → ℕ
 mixed n = (n * 15485907386658061715) % 2 ^ 64
@@ -69,6 +78,8 @@ AreFree slots = (i : ℕ) → slice_index_or slots i 0 ≡ 0
 
 -- the index tells each of the names from every other name
 pub record IsIndexed (names : List (List ℕ)) (index : NameIndex) : Type 0 where
+  pub count : length index.parts.items ≡ length names
+  pub parts : HaveParts names index.parts.items
   pub some : 0 < length index.first.items
   pub more : 0 < length index.second.items
   pub known : List ℕ → Bool
@@ -79,6 +90,10 @@ pub record IsIndexed (names : List (List ℕ)) (index : NameIndex) : Type 0 wher
 abbrev pub IsAdded : List (List ℕ) → List ℕ → Bool → NameIndex → Type 0
 IsAdded names name true index = (has name names ≡ false) × IsIndexed (names ++ name ∷ []) index
 IsAdded names name false index = (has name names ≡ true) × IsIndexed (names ++ name ∷ []) index
+
+abbrev pub IsAddedTo : List (List ℕ) → List ℕ → Bool → Option NameIndex → Type 0
+IsAddedTo names name is_new None = ⊥
+IsAddedTo names name is_new (Some index) = IsAdded names name is_new index
 
 -- an index of the names, where there is one
 abbrev pub IsCovering : List (List ℕ) → Option NameIndex → Type 0

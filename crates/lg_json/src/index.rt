@@ -1,7 +1,7 @@
 //! An index of the names of an object's members, by which a name is found among many.
 ghost use Rattle.std.specs.Prelude.{◌≡◌, ◌+◌, [], ◌<◌, ◌≤◌, ◌↔◌, length, drop, slice_index_or, bytes_eq, IfOk, IsTrue};
 ghost use Rattle.lg_json.specs.Places as index;
-ghost use Rattle.lg_json.specs.Places.{IsIndexed, IsAdded, IsCovering, IsFilled, Fills, AreFree, names_view, has};
+ghost use Rattle.lg_json.specs.Places.{IsIndexed, IsAdded, IsAddedTo, IsCovering, IsFilled, Fills, HaveParts, AreFree, names_view, has};
 
 use crate::json::Member;
 use lg_containers::{Duplicate, Text};
@@ -24,6 +24,8 @@ const SLOTS_A_MEMBER: usize = 4;
 /// whose name has it, and 0 where it is free.
 #[derive(Drop)]
 pub struct NameIndex {
+    /// A part of each name's number, by which most other names are told from it without a look at it.
+    parts: Vec<u32>,
     first: Vec<u32>,
     /// The slots of the names that found another name in their first.
     second: Vec<u32>,
@@ -51,6 +53,13 @@ fn name_number(name: &[u8]) -> u64
     number
 }
 
+/// The part of a name's number that is kept.
+fn part_of(number: u64) -> u32
+    ensures { result ≡ index.part_of number }
+{
+    (number % 0x1_0000_0000) as u32
+}
+
 /// Another number for the same name, by which names with near numbers are far from one another.
 fn other_number(number: u64) -> u64
     ensures { result ≡ index.mixed number }
@@ -76,11 +85,17 @@ fn name_at(members: &[Member], place: usize) -> &Text
     &members[place].name
 }
 
-/// Whether the member at the place has the name.
-fn is_named(members: &[Member], place: usize, name: &[u8]) -> bool
-    requires { place < length members.now }
+/// Whether the member at the place has the name, whose number is given.
+#[tactic(auto, using(crate::proofs::Placing::other_part))]
+fn is_named(members: &[Member], parts: &[u32], place: usize, name: &[u8], number: u64) -> bool
+    requires within { place < length members.now }
+    requires parts { HaveParts (names_view members.now) parts.now }
+    requires number { number ≡ index.name_number name.now }
     ensures { result ≡ bytes_eq (slice_index_or (names_view members.now) place []) name.now }
 {
+    if parts[place] != part_of(number) {
+        return false;
+    }
     same_bytes(members[place].name.bytes(), name)
 }
 
@@ -122,27 +137,29 @@ fn one_more(members: &[Member]) -> u32
 }
 
 /// Adds the name of the member that comes next, whose first slot is that of another name, and says
-/// whether it is new. The number is the name's other one.
+/// whether it is new.
 fn add_other(
     alloc: Global,
     members: &[Member],
+    parts: &[u32],
     slots: &mut Vec<u32>,
     others: &mut BTreeSet<Text>,
     name: &Text,
     number: u64,
 ) -> Result<bool, AllocError>
     requires filled { IsFilled (names_view members.now) slots.old.items others.old }
-    requires number { number ≡ index.other_number name.now }
+    requires parts { HaveParts (names_view members.now) parts.now }
+    requires number { number ≡ index.name_number name.now }
     requires room { length members.now < 0xFFFF_FFFF }
     ensures { IfOk result (λ is_new. Fills (names_view members.now) name.now slots.old.items others.old slots.new.items others.new is_new) }
 {
-    let slot = slot_of(number, slots.len());
+    let slot = slot_of(other_number(number), slots.len());
     let taken = slots[slot];
     if taken == 0 {
         slots[slot] = one_more(members);
         return Ok(true);
     }
-    if is_named(members, taken as usize - 1, name.bytes()) {
+    if is_named(members, parts, taken as usize - 1, name.bytes(), number) {
         return Ok(false);
     }
     let is_new = others.insert(name.copy(alloc)?)?;
@@ -157,6 +174,7 @@ impl NameIndex {
         let first = free_slots(alloc, count)?;
         let second = free_slots(alloc, count)?;
         Ok(NameIndex {
+            parts: Vec::new(alloc),
             first,
             second,
             others: BTreeSet::new(alloc),
@@ -169,25 +187,28 @@ impl NameIndex {
     }
 
     /// Adds the name of the member that comes next, and says whether it is new.
+    #[tactic(auto, using(crate::proofs::Placing::parts_still))]
     fn add(&mut self, alloc: Global, members: &[Member], name: &Text) -> Result<bool, AllocError>
         requires indexed { IsIndexed (names_view members.now) self.old }
         requires room { length members.now < 0xFFFF_FFFF }
         ensures { IfOk result (λ is_new. IsAdded (names_view members.now) name.now is_new self.new) }
     {
         let number = name_number(name.bytes());
+        self.parts.push(part_of(number))?;
         let slot = slot_of(number, self.first.len());
         let taken = self.first[slot];
         if taken == 0 {
             self.first[slot] = one_more(members);
             return Ok(true);
         }
-        if is_named(members, taken as usize - 1, name.bytes()) {
+        let parts = self.parts.as_slice();
+        if is_named(members, parts, taken as usize - 1, name.bytes(), number) {
             return Ok(false);
         }
-        let number = other_number(number);
         let is_new = add_other(
             alloc,
             members,
+            parts,
             &mut self.second,
             &mut self.others,
             name,
@@ -197,41 +218,27 @@ impl NameIndex {
     }
 }
 
-/// Whether the name is new among the names of the members, and the index with it.
+/// Adds the name of the member that comes next to the index, which is made anew where there is none
+/// with room for it, and says whether the name is new.
 pub fn look_up(
     alloc: Global,
     members: &[Member],
-    index: Option<NameIndex>,
+    index: &mut Option<NameIndex>,
     name: &Text,
-) -> Result<(bool, NameIndex), AllocError>
-    requires covering { IsCovering (names_view members.now) index }
+) -> Result<bool, AllocError>
+    requires covering { IsCovering (names_view members.now) index.old }
     requires room { length members.now < 0xFFFF_FFFF }
-    ensures { IfOk result (λ p. IsAdded (names_view members.now) name.now p.0 p.1) }
+    ensures { IfOk result (λ is_new. IsAddedTo (names_view members.now) name.now is_new index.new) }
 {
-    let mut index = ready_index(alloc, members, index)?;
-    let is_new = index.add(alloc, members, name)?;
-    Ok((is_new, index))
-}
-
-/// The index, or one anew where there is none that has room for one more name.
-fn ready_index(
-    alloc: Global,
-    members: &[Member],
-    index: Option<NameIndex>,
-) -> Result<NameIndex, AllocError>
-    requires covering { IsCovering (names_view members.now) index }
-    requires room { length members.now < 0xFFFF_FFFF }
-    ensures { IfOk result (IsIndexed (names_view members.now)) }
-{
-    match index {
-        Some(index) => {
-            if index.has_room(members.len()) {
-                return Ok(index);
-            }
-            index_names(alloc, members)
+    if let Some(ready) = index {
+        if ready.has_room(members.len()) {
+            return ready.add(alloc, members, name);
         }
-        None => index_names(alloc, members),
     }
+    let mut made = index_names(alloc, members)?;
+    let is_new = made.add(alloc, members, name)?;
+    *index = Some(made);
+    Ok(is_new)
 }
 
 /// An index of the names of the members.

@@ -75,12 +75,18 @@ impl OpenObject {
         requires room { length self.old.0 < 0xFFFF_FFFF }
         ensures { IfOk result (IsNamed self.old.0 name self.new) }
     {
-        let index = self.index.take();
-        let (is_new, index) = look_up(alloc, self.members.as_slice(), index, &name)?;
+        let looked = look_up(alloc, self.members.as_slice(), &mut self.index, &name);
+        let is_new = match looked {
+            Ok(is_new) => is_new,
+            Err(error) => {
+                self.index = None;
+                return Err(error);
+            }
+        };
         if !is_new {
+            self.index = None;
             return Ok(false);
         }
-        self.index = Some(index);
         self.waiting = Some(name);
         Ok(true)
     }

@@ -4,7 +4,7 @@ use Rattle.std.specs.Cmp.Lexicographic.{slice_cmp}
 use Rattle.std.specs.Ordering.{nat_cmp}
 use Rattle.std.specs.BTreeSet.{Updates, contains}
 use Rattle.std.proofs.lemmas.List.{get_or_read_under, length-set}
-use Rattle.lg_json.specs.Places.{names_view, other_number, slot_of, slot_place, set_has, known_with, Comes}
+use Rattle.lg_json.specs.Places.{names_view, mixed, other_number, slot_of, slot_place, set_has, known_with, Comes}
 use Rattle.lg_json.proofs.Placing.{added_new, added_known, added_other, finds, set_adds, not_not, names_length}
 use Rattle.lg_json.proofs.index.add_other.Goals as goal
 
@@ -15,7 +15,7 @@ returns-then-taken-eq0 c =
     let slots = c.args.slots.now.items in
     let slot = c.slot_of-slot.result in
     let lengths : c.args.slots.now.len ≡ length slots = c.args.slots.now.ok.0 in
-    let is : slot ≡ slot_of (other_number name) (length slots) = c.slot_of-slot.ensures.value ∙ ap (λ n. slot_of n c.len.result) c.requires.number ∙ ap (slot_of (other_number name)) (c.len.ensures ∙ lengths) in
+    let is : slot ≡ slot_of (other_number name) (length slots) = c.slot_of-slot.ensures.value ∙ ap (λ n. slot_of n c.len.result) (c.other_number.ensures ∙ ap mixed c.requires.number) ∙ ap (slot_of (other_number name)) (c.len.ensures ∙ lengths) in
     let within : slot < length slots = omega (arith, c.slot_of-slot.ensures.within, c.len.ensures, lengths) in
     let free : get_or slots slot 0 ≡ 0 = sym (get_or_read_under slots slot (length slots) c.index-taken.result.now 0 c.index-taken.ensures within refl) ∙ c.if-taken-eq0.true in (
       omega (arith, length-set slots slot c.one_more.result, c.requires.filled.0),
@@ -31,7 +31,7 @@ returns-then-is_named c =
     let slots = c.args.slots.now.items in
     let slot = c.slot_of-slot.result in
     let lengths : c.args.slots.now.len ≡ length slots = c.args.slots.now.ok.0 in
-    let is : slot ≡ slot_of (other_number name) (length slots) = c.slot_of-slot.ensures.value ∙ ap (λ n. slot_of n c.len.result) c.requires.number ∙ ap (slot_of (other_number name)) (c.len.ensures ∙ lengths) in
+    let is : slot ≡ slot_of (other_number name) (length slots) = c.slot_of-slot.ensures.value ∙ ap (λ n. slot_of n c.len.result) (c.other_number.ensures ∙ ap mixed c.requires.number) ∙ ap (slot_of (other_number name)) (c.len.ensures ∙ lengths) in
     let within : slot < length slots = omega (arith, c.slot_of-slot.ensures.within, c.len.ensures, lengths) in
     let taken = c.index-taken.result.now in
     let read : taken ≡ get_or slots slot 0 = get_or_read_under slots slot (length slots) taken 0 c.index-taken.ensures within refl in (
@@ -48,7 +48,7 @@ returns c =
     let slots = c.args.slots.now.items in
     let slot = c.slot_of-slot.result in
     let lengths : c.args.slots.now.len ≡ length slots = c.args.slots.now.ok.0 in
-    let is : slot ≡ slot_of (other_number name) (length slots) = c.slot_of-slot.ensures.value ∙ ap (λ n. slot_of n c.len.result) c.requires.number ∙ ap (slot_of (other_number name)) (c.len.ensures ∙ lengths) in
+    let is : slot ≡ slot_of (other_number name) (length slots) = c.slot_of-slot.ensures.value ∙ ap (λ n. slot_of n c.len.result) (c.other_number.ensures ∙ ap mixed c.requires.number) ∙ ap (slot_of (other_number name)) (c.len.ensures ∙ lengths) in
     let within : slot < length slots = omega (arith, c.slot_of-slot.ensures.within, c.len.ensures, lengths) in
     let taken = c.index-taken.result.now in
     let read : taken ≡ get_or slots slot 0 = get_or_read_under slots slot (length slots) taken 0 c.index-taken.ensures within refl in
