@@ -1,6 +1,6 @@
 -- What the calls of a history keep, and what they read.
-use Rattle.std.proofs.Common.{◌≡◌, ℕ, zero, suc, ◌+◌, ◌<◌, ◌≤◌, ℤ, ◌≤ℤ◌, Bool, true, false, cond, ◌||◌, List, [], ◌∷◌, ◌++◌, length, get_or, set, take, drop, map, filter, nat_lt, unwrap_or, slice_get, IsTrue, IsSome, IfSome, OnOk, OnErr, Option, Some, None, is_some, Result, Ok, Err, refl, sym, ap, ap₂, subst, ◌∙◌, arith}
-use Rattle.std.proofs.lemmas.List.{take_all, take_more, take-map, map-append, length-map, length-set, length-take, length-append}
+use Rattle.std.proofs.Common.{◌≡◌, ℕ, zero, suc, ◌+◌, ◌-◌, ◌<◌, ◌≤◌, ℤ, ◌≤ℤ◌, Bool, true, false, cond, ◌||◌, List, [], ◌∷◌, ◌++◌, length, get_or, set, take, drop, map, filter, nat_lt, unwrap_or, slice_get, IsTrue, IsSome, IfSome, OnOk, OnErr, Option, Some, None, is_some, Result, Ok, Err, refl, sym, ap, ap₂, subst, ◌∙◌, arith}
+use Rattle.std.proofs.lemmas.List.{take_all, take_more, take-map, map-append, length-map, length-set, length-take, length-drop, length-append}
 use Rattle.std.proofs.lemmas.List.Folds.{list_any-append}
 use Rattle.std.proofs.Math.Seq.{take-suc-set, map-set_same}
 use Rattle.std.specs.List.Sorted.{IsPartitionedBy}
@@ -10,6 +10,7 @@ use Rattle.lg_containers.specs.NameOrder.{name_order, is_in_order}
 use Rattle.lg_containers.specs.NameTable.{get, get-insert, same_table}
 use Rattle.lg_meta.specs.declared.change.DatedChange.{DatedChange}
 use Rattle.lg_types.specs.Changes.{MetaOf}
+use Rattle.lg_meta.specs.History.{History}
 use Rattle.lg_meta.specs.MetaFold.{meta_at, last_date}
 use Rattle.lg_meta.specs.Index.{names, hits, places, places_in, changes_of, value_there, is_there_by, last_value, with_value, IsRising, IsIndexed}
 use Rattle.lg_meta.proofs.Folds.{is_among, same_names}
@@ -58,17 +59,42 @@ applied_more all n index old new indexed lt is same later = record {
   complete = λ q. indexed.complete q ∙ ap (places q 0) (sym (map-set_same (λ (d : DatedChange). d.change) all n new old (same ∙ ap (λ d. d.change) is)));
 }
 
--- the prepared changes are given up
-pub forgotten : (all new : List DatedChange) (n : ℕ) (index cut : List (List ℕ × List ℕ)) → IsIndexed all n index → new ≡ take n all → IsTrue (is_in_order cut) → ((q : List ℕ) → places_in cut q ≡ filter (λ p. nat_lt p n) (places_in index q)) → IsIndexed new n cut
-forgotten all new n index cut indexed is order kept =
-    let long : length (take n all) ≡ n = let le : n ≤ length all = indexed.within in omega (arith, length-take n all) in
+-- the changes from a place on, all of them prepared, are given up
+take_least : (n m : ℕ) (xs : List DatedChange) → n ≤ m → take n (take m xs) ≡ take n xs
+take_least zero m xs le = refl
+take_least (suc n) zero xs le = absurd (omega arith)
+take_least (suc n) (suc m) [] le = refl
+take_least (suc n) (suc m) (x ∷ xs) le = ap (λ zs. x ∷ zs) (take_least n m xs (omega arith))
+
+pub forgotten : (all new : List DatedChange) (n m : ℕ) (index cut : List (List ℕ × List ℕ)) → IsIndexed all n index → n ≤ m → m ≤ length all → new ≡ take m all → IsTrue (is_in_order cut) → ((q : List ℕ) → places_in cut q ≡ filter (λ p. nat_lt p m) (places_in index q)) → IsIndexed new n cut
+forgotten all new n m index cut indexed from to is order kept =
     let P : List DatedChange → Type 0 = λ cs. IsIndexed cs n cut in
     subst P (sym is) (record {
-      within = omega arith;
-      rising = subst IsRising (sym (take_all n (take n all) (omega arith))) indexed.rising;
+      within = omega (arith, length-take m all);
+      rising = subst IsRising (sym (take_least n m all from)) indexed.rising;
       in_order = order;
-      complete = λ q. kept q ∙ ap (filter (λ p. nat_lt p n)) (indexed.complete q) ∙ places-take q n (changes_of all) ∙ ap (places q 0) (take-map (λ (d : DatedChange). d.change) n all);
+      complete = λ q. kept q ∙ ap (filter (λ p. nat_lt p m)) (indexed.complete q) ∙ places-take q m (changes_of all) ∙ ap (places q 0) (take-map (λ (d : DatedChange). d.change) m all);
     })
+
+-- the last of the prepared changes, where there is one
+drop_front : (n m : ℕ) (xs : List DatedChange) → n ≤ m → drop n (take m xs) ≡ take (m - n) (drop n xs)
+drop_front zero m xs le = let all : m - 0 ≡ m = omega arith in ap (λ k. take k xs) (sym all)
+drop_front (suc n) zero xs le = absurd (omega arith)
+drop_front (suc n) (suc m) [] le = sym (nothing (suc m - suc n))
+  where
+    nothing : (k : ℕ) → take {A = DatedChange} k [] ≡ []
+    nothing zero = refl
+    nothing (suc k) = refl
+drop_front (suc n) (suc m) (x ∷ xs) le = let one : suc m - suc n ≡ m - n = omega arith in drop_front n m xs (omega arith) ∙ ap (λ k. take k (drop n xs)) (sym one)
+
+pub last_given_up : (all new : List DatedChange) (n last : ℕ) → n ≤ last → last + 1 ≡ length all → new ≡ take last all
+    → ◌≡◌ {A = History} (record { changes = take n new; prepared = changes_of (drop n new) }) (record { changes = take n all; prepared = take (length (changes_of (drop n all)) - 1) (changes_of (drop n all)) })
+last_given_up all new n last from long is =
+    let count : last - n ≡ length (changes_of (drop n all)) - 1 = omega (arith, length-map (drop n all) (λ (d : DatedChange). d.change), length-drop n all) in
+    let kept : take n new ≡ take n all = ap (take n) is ∙ take_least n last all from in
+    let prepared : changes_of (drop n new) ≡ take (length (changes_of (drop n all)) - 1) (changes_of (drop n all)) =
+    ap (λ cs. changes_of (drop n cs)) is ∙ ap changes_of (drop_front n last all from) ∙ sym (take-map (λ (d : DatedChange). d.change) (last - n) (drop n all)) ∙ ap (λ k. take k (changes_of (drop n all))) count in
+    λ i. record { changes = kept i; prepared = prepared i }
 
 -- a change is prepared, or not
 take-front : (n : ℕ) (xs ys : List DatedChange) → n ≤ length xs → take n (xs ++ ys) ≡ take n xs

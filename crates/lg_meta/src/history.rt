@@ -1,6 +1,6 @@
 //! Histories of metadata.
 
-ghost use Rattle.std.specs.Prelude.{◌≡◌, ◌≤ℤ◌, [], ◌∷◌, ◌++◌, drop, Some, IsSome, IfSome, IfOk, OnOk, OnErr, slice_get};
+ghost use Rattle.std.specs.Prelude.{◌≡◌, ◌≤ℤ◌, ◌-◌, [], ◌∷◌, ◌++◌, length, take, drop, Some, IsSome, IfSome, IfOk, OnOk, OnErr, slice_get};
 ghost use Rattle.std.specs.Option.{option_copied};
 ghost use Rattle.lg_containers.specs.NameTable.{get};
 ghost use Rattle.lg_meta.specs.MetaFold.{meta_at, first_date, last_date};
@@ -69,6 +69,17 @@ impl MetaHistory {
     {
         cut(&mut self.index, self.applied);
         self.changes.truncate(self.applied);
+    }
+
+    /// Gives up the change that was prepared last, where one is prepared.
+    pub fn forget_last(&mut self)
+        ensures { self.new ≡ record { changes = self.old.changes; prepared = take (length self.old.prepared - 1) self.old.prepared } }
+    {
+        if self.applied < self.changes.len() {
+            let last = self.changes.len() - 1;
+            cut(&mut self.index, last);
+            self.changes.truncate(last);
+        }
     }
 
     /// Applies the first prepared change, which is the one given, at the date. Takes no memory.

@@ -128,3 +128,16 @@ fn forgets_what_is_prepared(rt: HostRuntime) -> Result<(), Fail> {
     assert_eq!(rt; shown(history.value(b"y", None)), b"".as_slice());
     Ok(())
 }
+
+#[test]
+fn forgets_what_is_prepared_last(rt: HostRuntime) -> Result<(), Fail> {
+    let alloc = rt.alloc();
+    let mut history = MetaHistory::new(alloc);
+    history.prepare(&set(alloc, &[("x", "1")])?)?;
+    history.prepare(&set(alloc, &[("x", "2"), ("y", "2")])?)?;
+    history.forget_last();
+    history.apply_first(FIRST);
+    assert_eq!(rt; shown(history.value(b"x", None)), b"1".as_slice());
+    assert_eq!(rt; shown(history.value(b"y", None)), b"".as_slice());
+    Ok(())
+}
