@@ -5,25 +5,29 @@ use Rattle.std.specs.List.{filter, take-map, drop-map}
 use Rattle.std.proofs.lemmas.List.{append-nil, drop_more, take-append-le, drop-append-le, map-append, length-map, length-take, length-drop}
 use Rattle.std.proofs.lemmas.Grind.{flat_map-append}
 use Rattle.lg_containers.specs.NameTable.{NameTable, get, empty, get-empty}
+use Rattle.lg_base.specs.Volumes.{IsWithinLimit}
+use Rattle.lg_types.specs.declared.moves.Move.{Move}
 use Rattle.lg_types.specs.declared.records.Entry.{Entry}
 use Rattle.lg_types.specs.declared.records.Event.{Event}
 use Rattle.lg_types.specs.declared.records.Event.TheVariants.{Made, Logged}
 use Rattle.lg_types.specs.declared.records.Transaction.{Transaction}
 use Rattle.lg_types.specs.Known.{marking, referred_by, transaction_references}
 use Rattle.lg_types.specs.Lists.{Each}
-use Rattle.lg_types.specs.Moves.{body_transaction}
-use Rattle.lg_types.specs.Parts.{Share, shares_of, has_key, has_reference, part_markings, part_references}
+use Rattle.lg_types.specs.Moves.{body_transaction, pair_moves}
+use Rattle.lg_types.specs.Parts.{Share, shares_of, has_key, has_reference, part_moves, part_markings, part_references}
 use Rattle.lg_shard.specs.declared.accounts.AccountPart.{AccountPart}
 use Rattle.lg_shard.specs.declared.kept.KeptEvent.{KeptEvent}
 use Rattle.lg_shard.specs.declared.ledgers.LedgerPart.{LedgerPart}
 use Rattle.lg_shard.specs.declared.names.Names.{Names}
 use Rattle.lg_shard.specs.Following.{Follows, AllFollow}
 use Rattle.lg_shard.specs.Held.{shown, all_shown, shares_done, shares_ahead, IsReadyEvent, IsReady, IsHeld, state_of}
-use Rattle.lg_shard.specs.Holdings.{Holding, no_holding, ledger_holding, own_holding, own_markings}
+use Rattle.lg_shard.specs.Holdings.{Holding, MovesFollow, no_holding, ledger_holding, own_holding, own_markings}
 use Rattle.lg_shard.specs.State.{PlacedEvent, StripeState, placed_shares, all_shares}
 use Rattle.lg_shard.specs.Accounts.{slot_in, items_of, items_at}
-use Rattle.lg_shard.specs.Shown.{account_moves, kept_under, used_under}
+use Rattle.lg_shard.specs.Shown.{AreWithinLimit, account_moves, kept_under, used_under}
 use Rattle.lg_shard.specs.Ties.{accounts_of, keys_of, references_of, PartTied, LedgersTied, AreRoomFor, IsReadyFor}
+use Rattle.lg_types.specs.Tally.{total_of}
+use Rattle.lg_types.proofs.MoveSums.{pair_moves-append}
 use Rattle.lg_shard.proofs.QuietLemmas.{holding-joined, holding-logged}
 use Rattle.lg_shard.proofs.LedgerLemmas.{nothing_tied}
 
@@ -33,6 +37,21 @@ pub AllFollow-push : (s : ℕ) (shares : List Share) (ps : List PlacedEvent) (p 
 AllFollow-push s shares [] p all follows = (subst (λ (l : List Share). Follows l (placed_shares s p)) (append-nil shares) follows, tt)
 AllFollow-push s shares (x ∷ xs) p all follows =
     (all.0, AllFollow-push s (shares ++ placed_shares s x) xs p all.1 (subst (λ (l : List Share). Follows l (placed_shares s p)) (sym (append_assoc shares (placed_shares s x) (all_shares s xs))) follows))
+
+-- ---- totals within the limit
+
+within-more : (before ms : List Move) → IsWithinLimit (total_of before) → MovesFollow before ms → IsWithinLimit (total_of (before ++ ms))
+within-more before [] h follows = subst (λ (l : List Move). IsWithinLimit (total_of l)) (sym (append-nil before)) h
+within-more before (m ∷ ms) h follows = subst (λ (l : List Move). IsWithinLimit (total_of l)) (append_assoc before (m ∷ []) ms) (within-more (before ++ m ∷ []) ms follows.1 follows.2)
+
+limits-more : (shares new : List Share) → AreWithinLimit shares → Follows shares new → AreWithinLimit (shares ++ new)
+limits-more shares new h follows ledger account asset =
+    subst (λ (l : List Move). IsWithinLimit (total_of l))
+    (sym (ap (λ x. pair_moves x.moves account asset) (holding-joined ledger shares new) ∙ pair_moves-append (part_moves ledger shares) (part_moves ledger new) account asset))
+    (within-more (account_moves shares ledger account asset) (account_moves new ledger account asset) (h ledger account asset) ((follows ledger).moves account asset))
+
+no-limits : AreWithinLimit []
+no-limits ledger account asset = record { input = omega arith; output = omega arith }
 
 -- ---- how many keys and references are prepared
 
@@ -138,6 +157,7 @@ module _ (s : ℕ) (events : List KeptEvent) (applied : ℕ) (k : KeptEvent) (wi
         (subst (λ (ps : List PlacedEvent). AllFollow s (shares_done s applied (all_shown events)) ps) (sym ahead-push) (AllFollow-push s _ (drop applied (all_shown events)) (shown k) held.follows follows));
     ready = subst (λ (ks : List KeptEvent). Each (IsReady s new) ks) (sym (drop-append-le applied events (k ∷ []) within))
         (ready_push s new (drop applied events) k (all_still s old new still (drop applied events) held.ready) ready);
+    limits = subst (λ (ps : List PlacedEvent). AreWithinLimit (all_shares s ps)) (sym done-push) held.limits;
   }
 
   pub state-push : state_of s (events ++ k ∷ []) applied ≡ record { stripe = s; shares = shares_done s applied (all_shown events); prepared = drop applied (all_shown events) ++ shown k ∷ [] }
@@ -146,7 +166,7 @@ module _ (s : ℕ) (events : List KeptEvent) (applied : ℕ) (k : KeptEvent) (wi
 -- other ledgers that stand for the same
 pub held-kept : (s : ℕ) (events : List KeptEvent) (applied : ℕ) (old new : NameTable LedgerPart) → IsHeld s events applied old
     → LedgersTied new (shares_done s applied (all_shown events)) (shares_ahead s applied (all_shown events)) → ((q : List ℕ) → IsSome (get old q) → IsSome (get new q)) → IsHeld s events applied new
-held-kept s events applied old new held tied still = record { within = held.within; tied = tied; follows = held.follows; ready = all_still s old new still (drop applied events) held.ready }
+held-kept s events applied old new held tied still = record { within = held.within; tied = tied; follows = held.follows; ready = all_still s old new still (drop applied events) held.ready; limits = held.limits }
 
 -- ---- nothing is prepared any more
 
@@ -167,13 +187,14 @@ module _ (s : ℕ) (events : List KeptEvent) (applied : ℕ) where
   ahead-cut : drop applied (all_shown (take applied events)) ≡ []
   ahead-cut = ap (drop applied) (sym (take-map shown applied events)) ∙ drop_taken applied (all_shown events)
 
-  pub held-cut : (ledgers : NameTable LedgerPart) → applied ≤ length events → LedgersTied ledgers (shares_done s applied (all_shown events)) [] → IsHeld s (take applied events) applied ledgers
-  held-cut ledgers within tied = record {
+  pub held-cut : (ledgers : NameTable LedgerPart) → applied ≤ length events → AreWithinLimit (shares_done s applied (all_shown events)) → LedgersTied ledgers (shares_done s applied (all_shown events)) [] → IsHeld s (take applied events) applied ledgers
+  held-cut ledgers within limits tied = record {
     within = let n = length-take applied events in omega arith;
     tied = subst (λ (ps : List PlacedEvent). LedgersTied ledgers (all_shares s ps) (shares_ahead s applied (all_shown (take applied events)))) (sym done-cut)
         (subst (λ (ps : List PlacedEvent). LedgersTied ledgers (shares_done s applied (all_shown events)) (all_shares s ps)) (sym ahead-cut) tied);
     follows = subst (λ (ps : List PlacedEvent). AllFollow s (shares_done s applied (all_shown (take applied events))) ps) (sym ahead-cut) tt;
     ready = subst (λ (ks : List KeptEvent). Each (IsReady s ledgers) ks) (sym (drop_taken applied events)) tt;
+    limits = subst (λ (ps : List PlacedEvent). AreWithinLimit (all_shares s ps)) (sym done-cut) limits;
   }
 
   pub state-cut : state_of s (take applied events) applied ≡ record { stripe = s; shares = shares_done s applied (all_shown events); prepared = [] }
@@ -252,6 +273,8 @@ module _ (s : ℕ) (events : List KeptEvent) (applied : ℕ) (old : NameTable Le
       follows = subst (λ (ps : List PlacedEvent). AllFollow s (shares_done s (applied + 1) ps) (drop (applied + 1) ps)) (sym same)
           (subst (λ (l : List Share). AllFollow s l (drop (applied + 1) (all_shown events))) (sym shares-first) follows_first.1);
       ready = subst (λ (ks : List KeptEvent). Each (IsReady s new) ks) (sym rest) (all_still s old new still (drop (applied + 1) events) ready_kept.1);
+      limits = subst (λ (ps : List PlacedEvent). AreWithinLimit (shares_done s (applied + 1) ps)) (sym same)
+          (subst AreWithinLimit (sym shares-first) (limits-more _ _ held.limits follows_first.0));
     }
 
 -- the state after the first prepared event was applied
@@ -270,7 +293,7 @@ state-first s events after applied p first same =
 
 pub held-new : (s : ℕ) (events : List KeptEvent) (ledgers : NameTable LedgerPart) → events ≡ [] → ledgers ≡ empty → IsHeld s events 0 ledgers
 held-new s events ledgers none h =
-    subst (λ (ks : List KeptEvent). IsHeld s ks 0 ledgers) (sym none) (record { within = omega arith; tied = nothing_tied ledgers h; follows = tt; ready = tt })
+    subst (λ (ks : List KeptEvent). IsHeld s ks 0 ledgers) (sym none) (record { within = omega arith; tied = nothing_tied ledgers h; follows = tt; ready = tt; limits = no-limits })
 
 -- ---- what readers find
 
@@ -291,3 +314,7 @@ module _ (s : ℕ) (events : List KeptEvent) (applied : ℕ) (ledgers : NameTabl
 
   pub no-items : o ≡ None → (account asset : List ℕ) → account_moves v.shares ledger account asset ≡ []
   no-items none account asset = sym (items-shown account asset) ∙ ap (λ p. items_at (accounts_of p) account asset) none ∙ ap (λ p. items_of (slot_in p asset)) (get-empty AccountPart account)
+
+-- the totals of what is seen are within the limit
+pub limits-shown : (s : ℕ) (events : List KeptEvent) (applied : ℕ) (ledgers : NameTable LedgerPart) → IsHeld s events applied ledgers → (v : StripeState) → state_of s events applied ≡ v → AreWithinLimit v.shares
+limits-shown s events applied ledgers held v is = subst (λ (w : StripeState). AreWithinLimit w.shares) is held.limits

@@ -10,6 +10,7 @@ use Rattle.lg_shard.specs.declared.ledgers.LedgerPart.{LedgerPart}
 use Rattle.lg_shard.specs.declared.names.Names.{Names}
 use Rattle.lg_shard.specs.Following.{AllFollow}
 use Rattle.lg_shard.specs.Names.{names_in}
+use Rattle.lg_shard.specs.Shown.{AreWithinLimit}
 use Rattle.lg_shard.specs.State.{PlacedEvent, StripeState, placed, all_shares}
 use Rattle.lg_shard.specs.Ties.{LedgersTied}
 
@@ -39,6 +40,7 @@ pub record IsHeld (s : ℕ) (events : List KeptEvent) (applied : ℕ) (ledgers :
   pub tied : LedgersTied ledgers (shares_done s applied (all_shown events)) (shares_ahead s applied (all_shown events))
   pub follows : AllFollow s (shares_done s applied (all_shown events)) (drop applied (all_shown events))
   pub ready : Each (IsReady s ledgers) (drop applied events)
+  pub limits : AreWithinLimit (shares_done s applied (all_shown events))
 
 abbrev pub state_of : ℕ → List KeptEvent → ℕ → StripeState
 state_of s events applied = record { stripe = s; shares = shares_done s applied (all_shown events); prepared = drop applied (all_shown events) }

@@ -2,15 +2,21 @@
 use Rattle.std.specs.Prelude.{ℕ, List, Option}
 use Rattle.std.specs.Option.{option_map}
 use Rattle.std.specs.List.{find}
+use Rattle.lg_base.specs.Volumes.{IsWithinLimit}
 use Rattle.lg_keys.specs.declared.kept.Kept.{Kept}
 use Rattle.lg_types.specs.declared.moves.Move.{Move}
 use Rattle.lg_types.specs.Known.{Marking, is_marking_of, is_referred_as, transaction_of}
 use Rattle.lg_types.specs.Moves.{pair_moves}
 use Rattle.lg_types.specs.Parts.{Share, part_moves, part_markings, part_references}
+use Rattle.lg_types.specs.Tally.{total_of}
 
 -- the moves of an account and an asset of the ledger
 abbrev pub account_moves : List Share → List ℕ → List ℕ → List ℕ → List Move
 account_moves shares ledger account asset = pair_moves (part_moves ledger shares) account asset
+
+-- the moves of each account and each asset of each ledger add up within the limit
+abbrev pub AreWithinLimit : List Share → Type 0
+AreWithinLimit shares = (ledger account asset : List ℕ) → IsWithinLimit (total_of (account_moves shares ledger account asset))
 
 -- what is kept of a request: its entry and what it asked
 abbrev pub kept_of : Marking → Kept

@@ -4,7 +4,7 @@ ghost use Rattle.std.specs.Prelude.{◌≡◌, ◌+◌, ◌<◌, ◌↔◌, [], 
 ghost use Rattle.lg_types.specs.Parts.{shares_of};
 ghost use Rattle.lg_shard.specs.Following.{Follows};
 ghost use Rattle.lg_shard.specs.Held.{all_shown, IsHeld};
-ghost use Rattle.lg_shard.specs.Shown.{account_moves, kept_under, used_under};
+ghost use Rattle.lg_shard.specs.Shown.{AreWithinLimit, account_moves, kept_under, used_under};
 ghost use Rattle.lg_shard.specs.State.{StripeState, placed, coming_shares};
 
 use crate::events::{apply_event, prepare_event, push_kept, release_events, take_names};
@@ -66,6 +66,13 @@ impl Shard {
     {
         let _ = &self.events;
         self.stripe
+    }
+
+    /// A law of what is applied: the moves of each account and each asset of each ledger add up within the limit. Nothing is run.
+    pub fn totals_within(&self)
+        ensures { AreWithinLimit self.now.shares }
+    {
+        let _ = &self.events;
     }
 
     /// Prepares the event, as the last of those that are prepared.

@@ -9,7 +9,7 @@ pub invariant_of-self : goal.invariant_of-self
 invariant_of-self c =
     let x = c.self.inside in
     subst (λ (ks : List KeptEvent). IsHeld x.stripe ks x.applied c.release_events.new.ledgers) (sym c.truncate.ensures.items)
-    (held-cut x.stripe x.events.items x.applied c.release_events.new.ledgers c.self.invariant.within (c.release_events.ensures _ _ c.self.invariant.tied))
+    (held-cut x.stripe x.events.items x.applied c.release_events.new.ledgers c.self.invariant.within c.self.invariant.limits (c.release_events.ensures _ _ c.self.invariant.tied))
 
 pub returns : goal.returns
 returns c =
