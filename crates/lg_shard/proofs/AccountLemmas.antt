@@ -1,5 +1,6 @@
 -- What is found in accounts after a change of one of them.
-use Rattle.std.proofs.Common.{◌≡◌, ℕ, Bool, true, false, cond, ◌&&◌, List, Option, Some, None, IsSome, unwrap_or, Result, Ok, Err, OnOk, OnErr, Ordering, Less, Equal, Greater, refl, sym, ap, ap₂, subst, ◌∙◌}
+use Rattle.std.proofs.Common.{◌≡◌, ℕ, ◌<◌, length, arith, Bool, true, false, cond, ◌&&◌, List, Bor, is_some, Option, Some, None, IsSome, unwrap_or, Result, Ok, Err, OnOk, OnErr, Ordering, Less, Equal, Greater, refl, sym, ap, ap₂, subst, ◌∙◌}
+use Rattle.std.specs.Option.{option_copied}
 use Rattle.std.specs.Ordering.{is_eq, eq_by_cmp}
 use Rattle.std.specs.Cmp.{tied_itself}
 use Rattle.std.specs.Cmp.Lexicographic.{nat_list_cmp_total}
@@ -7,6 +8,7 @@ use Rattle.std.specs.Str.{bytes_eq}
 use Rattle.std.proofs.lemmas.Slice.Eq.{bytes_eq-Decides}
 use Rattle.lg_containers.specs.NameOrder.{name_order}
 use Rattle.lg_containers.specs.NameTable.{NameTable, get, insert, empty, get-insert, get-empty, name_order-same}
+use Rattle.lg_meta.specs.History.{History}
 use Rattle.lg_types.specs.declared.changes.MetaChange.{MetaChange}
 use Rattle.lg_shard.specs.declared.accounts.AccountPart.{AccountPart}
 use Rattle.lg_shard.specs.declared.reserved.Reserved.{Reserved}
@@ -166,3 +168,36 @@ pub assets-opened : {X T E : Type 0} (f : Option Reserved → X) (r : Result T E
     → OnOk r (changed ≡ insert assets asset (unwrap_or (get assets asset) fresh)) → OnErr r (changed ≡ assets) → f (Some fresh) ≡ f None → (s : List ℕ) → f (get changed s) ≡ f (get assets s)
 assets-opened f (Ok u) assets changed asset fresh ok err h s = ap (λ t. f (get t s)) ok ∙ get-opened f assets asset fresh s h
 assets-opened f (Err u) assets changed asset fresh ok err h s = ap (λ t. f (get t s)) err
+
+-- the history of an account that is there changes
+module _ (t : NameTable AccountPart) (name n : List ℕ) (e : n ≡ name) (part changed : AccountPart) (there : get t n ≡ Some part) (f : History → History) (is : changed.history ≡ f part.history) where
+  changed_or : (b : Bool) (o : Option AccountPart) → (b ≡ true → o ≡ Some part) → history_in (cond b (Some changed) o) ≡ cond b (f (history_in o)) (history_in o)
+  changed_or true o same = is ∙ ap (λ p. f (history_in p)) (sym (same refl))
+  changed_or false o same = refl
+
+  pub history-changed : (a : List ℕ) → history_at (insert t n changed) a ≡ cond (bytes_eq name a) (f (history_at t a)) (history_at t a)
+  history-changed a =
+      ap history_in (get-change t n changed a)
+      ∙ changed_or (bytes_eq n a) (get t a) (λ h. ap (get t) (sym (bytes_same n a h)) ∙ there)
+      ∙ ap (λ x. cond (bytes_eq x a) (f (history_at t a)) (history_at t a)) e
+
+-- an account that isn't there has the empty history
+pub absent-history : (t : NameTable AccountPart) (name n : List ℕ) → n ≡ name → get t n ≡ None → (a : List ℕ) → bytes_eq name a ≡ true → history_at t a ≡ no_history
+absent-history t name n e none a h = ap (λ x. history_at t x) (sym (e ∙ bytes_same name a h)) ∙ ap history_in none
+
+-- an account whose history has a prepared change is there
+pub prepared-there : (t : NameTable AccountPart) (name n : List ℕ) → n ≡ name → 0 < length (history_at t name).prepared → IsSome (get t n)
+prepared-there t name n e lt = there_of (get t n) (subst (λ x. 0 < length (history_at t x).prepared) (sym e) lt)
+  where
+    there_of : (o : Option AccountPart) → 0 < length (history_in o).prepared → IsSome o
+    there_of None lt = absurd (omega arith)
+    there_of (Some p) lt = refl
+
+-- the history of an account that is there
+pub part-history : (t : NameTable AccountPart) (name n : List ℕ) → n ≡ name → (part : AccountPart) → get t n ≡ Some part → history_at t name ≡ part.history
+part-history t name n e part there = ap (λ x. history_at t x) (sym e) ∙ ap history_in there
+
+-- what isn't found isn't there
+pub copied-none : {V : Type 0} (o : Option (Bor V)) (p : Option V) → option_copied o ≡ p → is_some o ≡ false → p ≡ None
+copied-none None p e h = sym e
+copied-none (Some v) p e h = absurd (let f : true ≡ false = h in cc)

@@ -1,8 +1,8 @@
 -- What a shard keeps, from state to state.
-use Rattle.std.proofs.Common.{◌≡◌, ℕ, zero, suc, ◌+◌, ◌-◌, ◌<◌, ◌≤◌, Bool, true, false, cond, List, [], ◌∷◌, ◌++◌, length, get_or, take, drop, map, slice_get, Option, Some, None, IsSome, refl, sym, ap, subst, ◌∙◌, append_assoc, length-append, arith}
+use Rattle.std.proofs.Common.{◌≡◌, ℕ, zero, suc, ◌+◌, ◌-◌, ◌<◌, ◌≤◌, Bool, true, false, cond, ◌||◌, List, [], ◌∷◌, ◌++◌, length, get_or, take, drop, map, slice_get, Option, Some, None, IsSome, refl, sym, ap, subst, ◌∙◌, append_assoc, length-append, arith}
 use Rattle.std.specs.Option.{option_to_list}
-use Rattle.std.specs.List.{filter, take-map, drop-map}
-use Rattle.std.proofs.lemmas.List.{append-nil, drop_more, take-append-le, drop-append-le, map-append, length-map, length-take, length-drop}
+use Rattle.std.specs.List.{filter, list_any, take-map, drop-map}
+use Rattle.std.proofs.lemmas.List.{append-nil, drop_more, take_more, take-append-le, drop-append-le, map-append, length-map, length-take, length-drop}
 use Rattle.std.proofs.lemmas.Grind.{flat_map-append}
 use Rattle.lg_containers.specs.NameTable.{NameTable, get, empty, get-empty}
 use Rattle.lg_base.specs.Volumes.{IsWithinLimit}
@@ -11,10 +11,13 @@ use Rattle.lg_types.specs.declared.records.Entry.{Entry}
 use Rattle.lg_types.specs.declared.records.Event.{Event}
 use Rattle.lg_types.specs.declared.records.Event.TheVariants.{Made, Logged}
 use Rattle.lg_types.specs.declared.records.Transaction.{Transaction}
+use Rattle.lg_types.specs.declared.records.Target.TheVariants.{Account}
+use Rattle.lg_types.specs.Changes.{is_about}
+use Rattle.lg_types.specs.PartLaws.{is_account}
 use Rattle.lg_types.specs.Known.{marking, referred_by, transaction_references}
 use Rattle.lg_types.specs.Lists.{Each}
 use Rattle.lg_types.specs.Moves.{body_transaction, pair_moves}
-use Rattle.lg_types.specs.Parts.{Share, shares_of, has_key, has_reference, part_moves, part_markings, part_references}
+use Rattle.lg_types.specs.Parts.{Share, shares_of, has_key, has_reference, part_moves, part_changes, part_markings, part_references}
 use Rattle.lg_shard.specs.declared.accounts.AccountPart.{AccountPart}
 use Rattle.lg_shard.specs.declared.kept.KeptEvent.{KeptEvent}
 use Rattle.lg_shard.specs.declared.ledgers.LedgerPart.{LedgerPart}
@@ -23,11 +26,14 @@ use Rattle.lg_shard.specs.Following.{Follows, AllFollow}
 use Rattle.lg_shard.specs.Held.{shown, all_shown, shares_done, shares_ahead, IsReadyEvent, IsReady, IsHeld, state_of}
 use Rattle.lg_shard.specs.Holdings.{Holding, MovesFollow, no_holding, ledger_holding, own_holding, own_markings}
 use Rattle.lg_shard.specs.State.{PlacedEvent, StripeState, placed_shares, all_shares}
-use Rattle.lg_shard.specs.Accounts.{slot_in, items_of, items_at}
-use Rattle.lg_shard.specs.Shown.{AreWithinLimit, account_moves, kept_under, used_under}
+use Rattle.lg_shard.specs.Accounts.{slot_in, items_of, items_at, history_in, history_at}
+use Rattle.lg_shard.specs.Named.{is_named, passes, is_named_at, assets_of, assets_at}
+use Rattle.lg_shard.specs.Shown.{AreWithinLimit, account_changes, account_moves, is_known, is_moved, kept_under, used_under}
 use Rattle.lg_shard.specs.Ties.{accounts_of, keys_of, references_of, PartTied, LedgersTied, AreRoomFor, IsReadyFor}
 use Rattle.lg_types.specs.Tally.{total_of}
 use Rattle.lg_types.proofs.MoveSums.{pair_moves-append}
+use Rattle.lg_shard.proofs.KnownLemmas.{known-all}
+use Rattle.lg_shard.proofs.NamedLemmas.{of_account, named-at, assets-members}
 use Rattle.lg_shard.proofs.QuietLemmas.{holding-joined, holding-logged}
 use Rattle.lg_shard.proofs.LedgerLemmas.{nothing_tied}
 
@@ -200,6 +206,15 @@ module _ (s : ℕ) (events : List KeptEvent) (applied : ℕ) where
   pub state-cut : state_of s (take applied events) applied ≡ record { stripe = s; shares = shares_done s applied (all_shown events); prepared = [] }
   state-cut = λ i. record { stripe = s; shares = all_shares s (done-cut i); prepared = ahead-cut i }
 
+-- the last of the events, behind those before it
+pub shares-last : (s : ℕ) (events : List KeptEvent) (n m : ℕ) (d : KeptEvent) → m + 1 ≡ n → n ≤ length events → all_shares s (all_shown (take n events)) ≡ all_shares s (all_shown (take m events)) ++ shares_of s (get_or events m d).place (get_or events m d).event
+shares-last s events n m d e le =
+    ap (λ k. all_shares s (all_shown (take k events))) (sym e)
+    ∙ ap (λ ks. all_shares s (all_shown ks)) (take_more events m d (omega arith))
+    ∙ ap (all_shares s) (map-append shown (take m events) (get_or events m d ∷ []))
+    ∙ flat_map-append (placed_shares s) (all_shown (take m events)) (shown (get_or events m d) ∷ [])
+    ∙ ap (λ l. all_shares s (all_shown (take m events)) ++ l) (append-nil (placed_shares s (shown (get_or events m d))))
+
 -- ---- the first prepared event
 
 some_same : {X : Type 0} (x y : X) → Some x ≡ Some y → x ≡ y
@@ -314,6 +329,26 @@ module _ (s : ℕ) (events : List KeptEvent) (applied : ℕ) (ledgers : NameTabl
 
   pub no-items : o ≡ None → (account asset : List ℕ) → account_moves v.shares ledger account asset ≡ []
   no-items none account asset = sym (items-shown account asset) ∙ ap (λ p. items_at (accounts_of p) account asset) none ∙ ap (λ p. items_of (slot_in p asset)) (get-empty AccountPart account)
+
+  pub changes-shown : (account : List ℕ) → (history_at (accounts_of o) account).changes ≡ account_changes v.shares ledger account
+  changes-shown account = part_here.histories.applied account
+
+  pub no-changes : o ≡ None → (account : List ℕ) → account_changes v.shares ledger account ≡ []
+  no-changes none account = sym (changes-shown account) ∙ ap (λ p. (history_at (accounts_of p) account).changes) none ∙ ap (λ p. (history_in p).changes) (get-empty AccountPart account)
+
+  pub known-shown : (account : List ℕ) → is_named_at (accounts_of o) account ≡ is_known v.shares ledger account
+  known-shown account =
+      named-at (accounts_of o) _ _ part_here.moves _ _ part_here.histories account
+      ∙ subst (λ (w : StripeState). (list_any (of_account account) (part_moves ledger w.shares) || list_any (is_about (Account account)) (part_changes ledger w.shares)) ≡ is_known w.shares ledger account) is (sym (known-all ledger account s (take applied (all_shown events))))
+
+  pub unknown : o ≡ None → (account : List ℕ) → false ≡ is_known v.shares ledger account
+  unknown none account = sym (ap (passes is_named) (get-empty AccountPart account)) ∙ sym (ap (λ p. is_named_at (accounts_of p) account) none) ∙ known-shown account
+
+  pub assets-shown : (account asset : List ℕ) → list_any (is_account asset) (assets_at (accounts_of o) account) ≡ is_moved v.shares ledger account asset
+  assets-shown account asset = assets-members (accounts_of o) _ _ part_here.moves account asset
+
+  pub no-assets : o ≡ None → (account asset : List ℕ) → false ≡ is_moved v.shares ledger account asset
+  no-assets none account asset = sym (ap (λ p. list_any (is_account asset) (assets_of p)) (get-empty AccountPart account)) ∙ sym (ap (λ p. list_any (is_account asset) (assets_at (accounts_of p) account)) none) ∙ assets-shown account asset
 
 -- the totals of what is seen are within the limit
 pub limits-shown : (s : ℕ) (events : List KeptEvent) (applied : ℕ) (ledgers : NameTable LedgerPart) → IsHeld s events applied ledgers → (v : StripeState) → state_of s events applied ≡ v → AreWithinLimit v.shares

@@ -1,35 +1,49 @@
 -- How the ties of all ledgers go from state to state.
-use Rattle.std.proofs.Common.{◌≡◌, ℕ, Bool, true, false, cond, List, [], ◌++◌, Option, Some, None, IsSome, unwrap_or, refl, sym, ap, subst, ◌∙◌, arith}
+use Rattle.std.proofs.Common.{◌≡◌, ℕ, Bool, true, false, cond, List, [], ◌∷◌, ◌++◌, Option, Some, None, IsSome, unwrap_or, refl, sym, ap, subst, ◌∙◌, length-append, arith}
 use Rattle.std.specs.Str.{bytes_eq}
 use Rattle.lg_containers.specs.NameTable.{NameTable, get, insert, empty, get-empty}
 use Rattle.lg_keys.specs.Contents.{Contents}
 use Rattle.lg_keys.specs.declared.kept.Kept.{Kept}
+use Rattle.lg_meta.specs.Index.{changes_of}
 use Rattle.lg_types.specs.declared.records.Entry.{Entry}
 use Rattle.lg_types.specs.declared.records.Event.TheVariants.{Logged}
 use Rattle.lg_types.specs.Parts.{Share, shares_of}
 use Rattle.lg_shard.specs.declared.accounts.AccountPart.{AccountPart}
 use Rattle.lg_shard.specs.declared.ledgers.LedgerPart.{LedgerPart}
-use Rattle.lg_shard.specs.Accounts.{slot_in, items_of}
+use Rattle.lg_shard.specs.Accounts.{slot_in, items_of, history_in}
 use Rattle.lg_shard.specs.Following.{Follows}
 use Rattle.lg_shard.specs.Holdings.{Holding, HoldingFollows, no_holding, joined, ledger_holding, own_holding}
-use Rattle.lg_shard.specs.Ties.{MovesTied, KeysTied, ReferencesTied, accounts_of, keys_of, references_of, PartTied, LedgersTied, IsRoomFor, AreRoomFor}
+use Rattle.lg_shard.specs.Ties.{MovesTied, HistoriesTied, KeysTied, ReferencesTied, accounts_of, keys_of, references_of, PartTied, LedgersTied, IsRoomFor, AreRoomFor}
+use Rattle.lg_shard.specs.Shown.{changes_on}
 use Rattle.lg_shard.proofs.AccountLemmas.{get-change, get-opened, bytes_same, bytes_itself}
+use Rattle.lg_shard.proofs.HistoryTies.{of-append}
 use Rattle.lg_shard.proofs.QuietLemmas.{holding-joined, joined-nothing, holding-logged}
+use Rattle.lg_shard.proofs.TieLemmas.{count-append}
 
 -- a part stands for the same as one with equal accounts and tables
 pub same_part : (o p : Option LedgerPart) → accounts_of p ≡ accounts_of o → keys_of p ≡ keys_of o → references_of p ≡ references_of o → (done ahead : Holding) → PartTied o done ahead → PartTied p done ahead
 same_part o p a k r done ahead tied = record {
   moves = subst (λ (t : NameTable AccountPart). MovesTied t done.moves ahead.moves) (sym a) tied.moves;
+  histories = subst (λ (t : NameTable AccountPart). HistoriesTied t done.changes ahead.changes) (sym a) tied.histories;
   keys = subst (λ (t : Contents Kept). KeysTied t done.markings ahead.markings) (sym k) tied.keys;
   references = subst (λ (t : Contents ℕ). ReferencesTied t done.references ahead.references) (sym r) tied.references;
 }
 
--- nothing is prepared
-pub part-forgotten : (o : Option LedgerPart) (done ahead : Holding) → PartTied o done ahead → PartTied o done no_holding
-part-forgotten o done ahead tied = record {
-  moves = record { items = tied.moves.items; room = λ a b. omega arith };
-  keys = record { known = tied.keys.known; room = omega arith };
-  references = record { known = tied.references.known; room = omega arith };
+-- a ledger that isn't there is ready for nothing
+front_none : {X : Type 0} (xs ys : List X) → [] ≡ xs ++ ys → [] ≡ xs
+front_none [] ys h = refl
+front_none (x ∷ xs) ys h = absurd cc
+
+part-absent : (done ahead own : Holding) → PartTied None done (joined ahead own) → PartTied None done ahead
+part-absent done ahead own tied = record {
+  moves = record { items = tied.moves.items; room = λ a b. let h = tied.moves.room a b in let n = count-append ahead.moves own.moves a b in omega arith };
+  histories = record {
+    applied = tied.histories.applied;
+    prepared = λ a. ap (λ o. (history_in o).prepared) (get-empty AccountPart a)
+        ∙ front_none (changes_of (changes_on ahead.changes a)) (changes_of (changes_on own.changes a)) (sym (ap (λ o. (history_in o).prepared) (get-empty AccountPart a)) ∙ tied.histories.prepared a ∙ of-append ahead.changes own.changes a);
+  };
+  keys = record { known = tied.keys.known; room = let h = tied.keys.room in let n = length-append ahead.markings own.markings in omega arith };
+  references = record { known = tied.references.known; room = let h = tied.references.room in let n = length-append ahead.references own.references in omega arith };
 }
 
 -- a ledger that was opened
@@ -115,15 +129,30 @@ module _ (mid : NameTable LedgerPart) (ledger n : List ℕ) (en : n ≡ ledger) 
       (subst (λ (x : Holding). PartTied (get mid q) (ledger_holding q shares) x) (before_other s place ledger e q coming (as_ledger q false h)) p))
       (tied q)
 
-  -- nothing is prepared any more
-  pub ledgers-released : (shares coming : List Share) → ((done ahead : Holding) → PartTied (Some part) done ahead → PartTied (Some changed) done no_holding)
-      → LedgersTied mid shares coming → LedgersTied (insert mid n changed) shares []
-  ledgers-released shares coming step tied q =
-      ledger-changed mid n part changed there (λ o. PartTied o (ledger_holding q shares) (ledger_holding q coming)) (λ o. PartTied o (ledger_holding q shares) no_holding) q
-      (λ h p. step (ledger_holding q shares) (ledger_holding q coming) p) (λ h p. part-forgotten (get mid q) (ledger_holding q shares) (ledger_holding q coming) p) (tied q)
+  -- the entry that was prepared last is given up
+  pub ledgers-released : (s place : ℕ) (e : Entry) (shares coming : List Share)
+      → ((done ahead : Holding) → PartTied (Some part) done (joined ahead (own_holding s ledger e)) → PartTied (Some changed) done ahead)
+      → LedgersTied mid shares (coming ++ shares_of s place (Logged ledger e)) → LedgersTied (insert mid n changed) shares coming
+  ledgers-released s place e shares coming step tied q =
+      let done : Holding = ledger_holding q shares in let new : List Share = shares_of s place (Logged ledger e) in
+      ledger-changed mid n part changed there (λ o. PartTied o done (ledger_holding q (coming ++ new))) (λ o. PartTied o done (ledger_holding q coming)) q
+      (λ h p. step done (ledger_holding q coming) (subst (λ (x : Holding). PartTied (Some part) done x) (after_own s place ledger e q coming (as_ledger q true h)) p))
+      (λ h p. subst (λ (x : Holding). PartTied (get mid q) done x) (after_other s place ledger e q coming (as_ledger q false h)) p)
+      (tied q)
 
-pub ledgers-forgotten : (ledgers : NameTable LedgerPart) (shares coming : List Share) → LedgersTied ledgers shares coming → LedgersTied ledgers shares []
-ledgers-forgotten ledgers shares coming tied q = part-forgotten (get ledgers q) (ledger_holding q shares) (ledger_holding q coming) (tied q)
+-- the ledger of the entry isn't there
+pub ledgers-absent : (ledgers : NameTable LedgerPart) (ledger n : List ℕ) → n ≡ ledger → get ledgers n ≡ None → (s place : ℕ) (e : Entry) (shares coming : List Share)
+    → LedgersTied ledgers shares (coming ++ shares_of s place (Logged ledger e)) → LedgersTied ledgers shares coming
+ledgers-absent ledgers ledger n en none s place e shares coming tied q = absent_or (bytes_eq ledger q) refl
+  where
+    absent_or : (b : Bool) → bytes_eq ledger q ≡ b → PartTied (get ledgers q) (ledger_holding q shares) (ledger_holding q coming)
+    absent_or true h =
+        let nothing : get ledgers q ≡ None = ap (get ledgers) (sym (en ∙ bytes_same ledger q h)) ∙ none in
+        subst (λ (o : Option LedgerPart). PartTied o (ledger_holding q shares) (ledger_holding q coming)) (sym nothing)
+        (part-absent (ledger_holding q shares) (ledger_holding q coming) (own_holding s ledger e)
+        (subst (λ (x : Holding). PartTied None (ledger_holding q shares) x) (after_own s place ledger e q coming h)
+        (subst (λ (o : Option LedgerPart). PartTied o (ledger_holding q shares) (ledger_holding q (coming ++ shares_of s place (Logged ledger e)))) nothing (tied q))))
+    absent_or false h = subst (λ (x : Holding). PartTied (get ledgers q) (ledger_holding q shares) x) (after_other s place ledger e q coming h) (tied q)
 
 -- what the part of the ledger is ready for
 module _ (ledgers : NameTable LedgerPart) (s place : ℕ) (ledger : List ℕ) (e : Entry) (n : List ℕ) (en : n ≡ ledger) (part : LedgerPart) (there : get ledgers n ≡ Some part) (shares coming : List Share) where
@@ -150,6 +179,7 @@ opened_still old mid name fresh opened q h =
 nothing_held : PartTied None no_holding no_holding
 nothing_held = record {
   moves = record { items = λ a b. ap (λ o. items_of (slot_in o b)) (get-empty AccountPart a); room = λ a b. omega arith };
+  histories = record { applied = λ a. ap (λ o. (history_in o).changes) (get-empty AccountPart a); prepared = λ a. ap (λ o. (history_in o).prepared) (get-empty AccountPart a) };
   keys = record { known = λ key. get-empty Kept key; room = omega arith };
   references = record { known = λ reference. get-empty ℕ reference; room = omega arith };
 }

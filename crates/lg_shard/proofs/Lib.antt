@@ -6,3 +6,7 @@ pub mod TableLemmas
 pub mod QuietLemmas
 pub mod LedgerLemmas
 pub mod HeldLemmas
+pub mod HistoryLemmas
+pub mod HistoryTies
+pub mod NamedLemmas
+pub mod KnownLemmas

@@ -1,5 +1,5 @@
 -- How the ties between indexes and shares go from state to state.
-use Rattle.std.proofs.Common.{◌≡◌, ℕ, ◌+◌, List, [], ◌++◌, length, sum_by, Some, None, sym, ap, ◌∙◌, arith, length-append}
+use Rattle.std.proofs.Common.{◌≡◌, ℕ, ◌+◌, ◌-◌, ◌≤◌, List, [], ◌++◌, length, sum_by, Some, None, sym, ap, subst, ◌∙◌, arith, length-append}
 use Rattle.std.specs.List.{flat_map, filter}
 use Rattle.lg_containers.specs.NameTable.{NameTable}
 use Rattle.lg_types.specs.declared.records.Entry.{Entry}
@@ -8,7 +8,7 @@ use Rattle.lg_types.specs.Moves.{Placed, pair_moves, body_transaction, transacti
 use Rattle.lg_types.specs.Parts.{has_move}
 use Rattle.lg_types.proofs.MoveSums.{pair_moves-append}
 use Rattle.lg_shard.specs.declared.accounts.AccountPart.{AccountPart}
-use Rattle.lg_shard.specs.Accounts.{items_at, waiting_at, SameHoldings, SameRoom}
+use Rattle.lg_shard.specs.Accounts.{items_of, waiting_of, items_at, waiting_at, SameHoldings, SameRoom, SameSlots}
 use Rattle.lg_shard.specs.Sides.{posting_count, posting_items}
 use Rattle.lg_shard.specs.Holdings.{own_moves}
 use Rattle.lg_shard.specs.Ties.{MovesTied}
@@ -27,7 +27,7 @@ module _ (s : ℕ) (ledger : List ℕ) (e : Entry) (t : Transaction) (there : bo
 pub no-moves : (s : ℕ) (ledger : List ℕ) (e : Entry) → body_transaction e.body ≡ None → own_moves s ledger e ≡ []
 no-moves s ledger e none = ap (λ o. filter (has_move s ledger) (transaction_moves e.date o)) none
 
-count-append : (ms ns : List Placed) (a b : List ℕ) → length (pair_moves (ms ++ ns) a b) ≡ length (pair_moves ms a b) + length (pair_moves ns a b)
+pub count-append : (ms ns : List Placed) (a b : List ℕ) → length (pair_moves (ms ++ ns) a b) ≡ length (pair_moves ms a b) + length (pair_moves ns a b)
 count-append ms ns a b = ap length (pair_moves-append ms ns a b) ∙ length-append (pair_moves ms a b) (pair_moves ns a b)
 
 module _ (old new : NameTable AccountPart) where
@@ -45,9 +45,19 @@ module _ (old new : NameTable AccountPart) where
     room = λ a b. let h = tied.room a b in let e = room a b in let n = count-append ahead own a b in omega arith;
   }
 
-  -- nothing is prepared
-  pub moves-forgotten : SameHoldings old new → (done ahead : List Placed) → MovesTied old done ahead → MovesTied new done []
-  moves-forgotten same done ahead tied = record { items = λ a b. same.items a b ∙ tied.items a b; room = λ a b. omega arith }
+  -- the room of the moves that were prepared last is given back
+  pub moves-released : (own : List Placed) → SameHoldings old new → ((a b : List ℕ) → waiting_at new a b ≡ waiting_at old a b - length (pair_moves own a b)) → (done ahead : List Placed) → MovesTied old done (ahead ++ own) → MovesTied new done ahead
+  moves-released own same room done ahead tied = record {
+    items = λ a b. same.items a b ∙ tied.items a b;
+    room = λ a b. let h = tied.room a b in let e = room a b in let n = count-append ahead own a b in omega arith;
+  }
+
+  -- the same slots
+  pub moves-slots : SameSlots old new → (done ahead : List Placed) → MovesTied old done ahead → MovesTied new done ahead
+  moves-slots same done ahead tied = record {
+    items = λ a b. ap items_of (same a b) ∙ tied.items a b;
+    room = λ a b. subst (λ n. length (pair_moves ahead a b) ≤ n) (sym (ap waiting_of (same a b))) (tied.room a b);
+  }
 
   -- prepared moves that are applied
   pub moves-applied : (own : List Placed) → ((a b : List ℕ) → items_at new a b ≡ items_at old a b ++ pair_moves own a b) → ((a b : List ℕ) → waiting_at new a b + length (pair_moves own a b) ≡ waiting_at old a b)

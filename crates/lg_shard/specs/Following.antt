@@ -1,4 +1,4 @@
--- When shares may follow other shares: in each ledger, each move, key and reference meets what its index asks of the next one.
+-- When shares may follow other shares: in each ledger, each move, change, key and reference meets what its index, its history or its table asks of the next one.
 use Rattle.std.specs.Prelude.{ℕ, List, [], ◌∷◌, ◌++◌}
 use Rattle.lg_types.specs.Parts.{Share}
 use Rattle.lg_shard.specs.Holdings.{HoldingFollows, ledger_holding}

@@ -5,6 +5,8 @@ pub mod Holdings
 pub mod Following
 -- what is kept
 pub mod Accounts
+pub mod Histories
+pub mod Named
 pub mod Sides
 pub mod Names
 pub mod Ties

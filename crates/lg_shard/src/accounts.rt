@@ -1,9 +1,11 @@
 //! What one ledger's accounts of the stripe hold.
 
-ghost use Rattle.std.specs.Prelude.{◌≡◌, ℕ, ◌+◌, ◌-◌, ◌<◌, List, [], ◌∷◌, ◌++◌, if◌then◌else◌, OnOk, OnErr, IsSome, is_some};
+ghost use Rattle.std.specs.Prelude.{◌≡◌, ℕ, ◌+◌, ◌-◌, ◌<◌, ◌≤ℤ◌, List, [], ◌∷◌, ◌++◌, length, if◌then◌else◌, OnOk, OnErr, IfSome, IsSome, is_some};
 ghost use Rattle.std.specs.Str.{bytes_eq};
 ghost use Rattle.lg_containers.specs.NameTable as table;
 ghost use Rattle.lg_shard.specs.Accounts.{slot_at, items_at, waiting_at, history_at, no_history, with_prepared, is_pair, one_if, only_if, SameHoldings, SameRoom, SameHistories, SameSlots};
+ghost use Rattle.lg_meta.specs.MetaFold.{last_date};
+ghost use Rattle.lg_shard.specs.Histories.{with_applied, without_last};
 ghost use Rattle.lg_shard.specs.Holdings.{MovesFollow};
 
 use crate::reserved::Reserved;
@@ -124,4 +126,26 @@ pub fn prepare_change(
     accounts.open(alloc, account, AccountPart::new(alloc))?;
     let part = accounts.value_mut(account.bytes());
     part.history.prepare(change)
+}
+
+/// Gives up the change of the account's metadata that was prepared last, where one is prepared.
+pub fn forget_change(accounts: &mut Accounts, account: &Address)
+    ensures slots { SameSlots accounts.old accounts.new }
+    ensures histories { (a : List ℕ) → history_at accounts.new a ≡ without_last (history_at accounts.old a) (one_if (bytes_eq account.now a)) }
+{
+    if accounts.find(account.bytes()).is_some() {
+        let part = accounts.value_mut(account.bytes());
+        part.history.forget_last();
+    }
+}
+
+/// Applies the first prepared change of the account's metadata at the date. Takes no memory.
+pub fn apply_change(accounts: &mut Accounts, account: &Address, date: &i64)
+    requires room { 0 < length (history_at accounts.old account.now).prepared }
+    requires later { IfSome (last_date (history_at accounts.old account.now).changes) (λ last. last ≤ℤ date.now) }
+    ensures slots { SameSlots accounts.old accounts.new }
+    ensures histories { (a : List ℕ) → history_at accounts.new a ≡ with_applied date.now (history_at accounts.old a) (one_if (bytes_eq account.now a)) }
+{
+    let part = accounts.value_mut(account.bytes());
+    part.history.apply_first(*date);
 }

@@ -1,13 +1,14 @@
-//! The moves of an entry on the accounts of its ledger, as far as the accounts are of the stripe.
+//! The moves and the changes of an entry on the accounts of its ledger, as far as the accounts are of the stripe.
 
-ghost use Rattle.std.specs.Prelude.{◌≡◌, ℕ, ◌≤◌, List, [], ◌++◌, length, map, OnOk, OnErr};
+ghost use Rattle.std.specs.Prelude.{◌≡◌, ℕ, ◌≤◌, List, ◌++◌, length, OnOk, OnErr};
+ghost use Rattle.lg_types.specs.Changes.{Change};
 ghost use Rattle.lg_types.specs.Moves.{Placed, pair_moves};
-ghost use Rattle.lg_shard.specs.Accounts.{items_at, waiting_at, SameHistories};
-ghost use Rattle.lg_shard.specs.Holdings.{MovesFollow};
-ghost use Rattle.lg_shard.specs.Holdings.{own_moves};
-ghost use Rattle.lg_shard.specs.Ties.{MovesTied};
+ghost use Rattle.lg_shard.specs.Accounts.{items_at, waiting_at, SameHistories, SameSlots};
+ghost use Rattle.lg_shard.specs.Holdings.{ChangesFollow, MovesFollow, own_changes, own_moves};
+ghost use Rattle.lg_shard.specs.Ties.{HistoriesTied, MovesTied};
 
 use crate::accounts::Accounts;
+use crate::entry_changes::{apply_body, forget_body, prepare_body};
 use crate::entry_moves::{apply_postings, release_postings, reserve_postings};
 use crate::names::transaction_of;
 use lg_containers::NoMemory;
@@ -42,7 +43,7 @@ pub fn reserve_moves(
 
 /// Gives back the room for the moves of the entry.
 pub fn release_moves(accounts: &mut Accounts, stripe: u8, ledger: &LedgerName, entry: &Entry)
-    ensures tied { (done ahead : List Placed) → MovesTied accounts.old done ahead → MovesTied accounts.new done [] }
+    ensures tied { (done ahead : List Placed) → MovesTied accounts.old done (ahead ++ own_moves stripe ledger.now entry.now) → MovesTied accounts.new done ahead }
     ensures histories { SameHistories accounts.old accounts.new }
 {
     match transaction_of(&entry.body) {
@@ -80,4 +81,36 @@ pub fn apply_moves<L: Ledger>(
         }
         None => {}
     }
+}
+
+/// Prepares the changes of the entry.
+pub fn prepare_changes(
+    alloc: Global,
+    accounts: &mut Accounts,
+    stripe: u8,
+    ledger: &LedgerName,
+    entry: &Entry,
+) -> Result<(), NoMemory>
+    ensures slots { SameSlots accounts.old accounts.new }
+    ensures ok { OnOk result ((done ahead : List Change) → HistoriesTied accounts.old done ahead → HistoriesTied accounts.new done (ahead ++ own_changes stripe ledger.now entry.now)) }
+    ensures err { OnErr result (SameHistories accounts.old accounts.new) }
+{
+    prepare_body(alloc, accounts, stripe, ledger, &entry.body)
+}
+
+/// Gives up the changes of the entry, which were prepared last.
+pub fn forget_changes(accounts: &mut Accounts, stripe: u8, ledger: &LedgerName, entry: &Entry)
+    ensures slots { SameSlots accounts.old accounts.new }
+    ensures tied { (done ahead : List Change) → HistoriesTied accounts.old done (ahead ++ own_changes stripe ledger.now entry.now) → HistoriesTied accounts.new done ahead }
+{
+    forget_body(accounts, stripe, ledger, &entry.body);
+}
+
+/// Applies the changes of the entry, the first of those that are prepared.
+pub fn apply_changes(accounts: &mut Accounts, stripe: u8, ledger: &LedgerName, entry: &Entry)
+    requires { (done : List Change) × (ahead : List Change) × HistoriesTied accounts.old done (own_changes stripe ledger.now entry.now ++ ahead) × ChangesFollow done (own_changes stripe ledger.now entry.now) }
+    ensures slots { SameSlots accounts.old accounts.new }
+    ensures tied { (done ahead : List Change) → HistoriesTied accounts.old done (own_changes stripe ledger.now entry.now ++ ahead) → HistoriesTied accounts.new (done ++ own_changes stripe ledger.now entry.now) ahead }
+{
+    apply_body(accounts, stripe, ledger, &entry.body, &entry.date);
 }

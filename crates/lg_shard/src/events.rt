@@ -6,6 +6,7 @@ ghost use Rattle.lg_containers.specs.NameTable as table;
 ghost use Rattle.lg_types.specs.Parts.{Share, shares_of};
 ghost use Rattle.lg_shard.specs.declared.kept.KeptEvent.{KeptEvent};
 ghost use Rattle.lg_shard.specs.Held.{all_shown, IsReadyEvent};
+ghost use Rattle.lg_shard.specs.State.{all_shares};
 ghost use Rattle.lg_shard.specs.Ties.{LedgersTied, AreRoomFor, IsReadyFor};
 
 use crate::kept::KeptEvent;
@@ -60,9 +61,9 @@ pub fn apply_event<L: Ledger>(
     }
 }
 
-// Gives back the room of an event.
+// Gives up the event that was prepared last.
 fn release_event(ledgers: &mut Ledgers, stripe: u8, event: &Event)
-    ensures { (shares coming : List Share) → LedgersTied ledgers.old shares coming → LedgersTied ledgers.new shares [] }
+    ensures { (place : ℕ) (shares coming : List Share) → LedgersTied ledgers.old shares (coming ++ shares_of stripe place event.now) → LedgersTied ledgers.new shares coming }
 {
     match event {
         Event::Made(_) => {}
@@ -70,12 +71,12 @@ fn release_event(ledgers: &mut Ledgers, stripe: u8, event: &Event)
     }
 }
 
-/// Gives back the room of the events, which are all that are prepared.
+/// Gives up the events, which are all that are prepared, from the last to the first.
 pub fn release_events(ledgers: &mut Ledgers, stripe: u8, events: &[KeptEvent])
-    ensures { (shares coming : List Share) → LedgersTied ledgers.old shares coming → LedgersTied ledgers.new shares [] }
+    ensures { (shares : List Share) → LedgersTied ledgers.old shares (all_shares stripe (all_shown events.now)) → LedgersTied ledgers.new shares [] }
 {
-    for kept in events {
-        release_event(ledgers, stripe, &kept.event);
+    for count in 0..events.len() {
+        release_event(ledgers, stripe, &events[events.len() - 1 - count].event);
     }
 }
 

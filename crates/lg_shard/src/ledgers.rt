@@ -1,15 +1,19 @@
 //! What the ledgers hold of the stripe.
 
-ghost use Rattle.std.specs.Prelude.{◌≡◌, ℕ, ◌+◌, ◌≤◌, ◌<◌, List, [], ◌++◌, length, OnOk, OnErr, IfOk, IsSome, Some};
+ghost use Rattle.std.specs.Prelude.{◌≡◌, ℕ, ◌+◌, ◌≤◌, ◌<◌, List, ◌++◌, length, OnOk, OnErr, IfOk, IsSome, Some};
 ghost use Rattle.lg_containers.specs.NameTable as table;
 ghost use Rattle.lg_types.specs.declared.records.Event.TheVariants.{Logged};
+ghost use Rattle.lg_types.specs.Changes.{Change};
+ghost use Rattle.lg_types.specs.Moves.{Placed};
 ghost use Rattle.lg_types.specs.Parts.{Share, shares_of};
-ghost use Rattle.lg_shard.specs.Holdings.{Holding, HoldingFollows, joined, no_holding, own_holding};
+ghost use Rattle.lg_shard.specs.Holdings.{Holding, HoldingFollows, joined, own_changes, own_holding, own_moves};
 ghost use Rattle.lg_shard.specs.Names.{names_in};
-ghost use Rattle.lg_shard.specs.Ties.{PartTied, LedgersTied, IsRoomFor, AreRoomFor, IsReadyFor};
+ghost use Rattle.lg_shard.specs.Ties.{HistoriesTied, MovesTied, PartTied, LedgersTied, IsRoomFor, AreRoomFor, IsReadyFor};
 
 use crate::accounts::Accounts;
-use crate::entries::{apply_moves, release_moves, reserve_moves};
+use crate::entries::{
+    apply_changes, apply_moves, forget_changes, prepare_changes, release_moves, reserve_moves,
+};
 use crate::names::{Names, own_names};
 use crate::slots::Slots;
 use crate::tables::{apply_key, apply_reference};
@@ -62,8 +66,31 @@ fn prepare_part(
     part.keys.prepare(count)?;
     part.references.prepare(count)?;
     let names = own_names(alloc, stripe, ledger, entry)?;
-    reserve_moves(alloc, &mut part.accounts, stripe, ledger, entry)?;
+    reserve_entry(alloc, &mut part.accounts, stripe, ledger, entry)?;
     Ok(names)
+}
+
+// Makes room for the moves of an entry and prepares its changes.
+fn reserve_entry(
+    alloc: Global,
+    accounts: &mut Accounts,
+    stripe: u8,
+    ledger: &LedgerName,
+    entry: &Entry,
+) -> Result<(), NoMemory>
+    ensures moves_ok { OnOk result ((done ahead : List Placed) → MovesTied accounts.old done ahead → MovesTied accounts.new done (ahead ++ own_moves stripe ledger.now entry.now)) }
+    ensures moves_err { OnErr result ((done ahead : List Placed) → MovesTied accounts.old done ahead → MovesTied accounts.new done ahead) }
+    ensures changes_ok { OnOk result ((done ahead : List Change) → HistoriesTied accounts.old done ahead → HistoriesTied accounts.new done (ahead ++ own_changes stripe ledger.now entry.now)) }
+    ensures changes_err { OnErr result ((done ahead : List Change) → HistoriesTied accounts.old done ahead → HistoriesTied accounts.new done ahead) }
+{
+    reserve_moves(alloc, accounts, stripe, ledger, entry)?;
+    match prepare_changes(alloc, accounts, stripe, ledger, entry) {
+        Ok(()) => Ok(()),
+        Err(error) => {
+            release_moves(accounts, stripe, ledger, entry);
+            Err(error)
+        }
+    }
 }
 
 // Applies a prepared entry.
@@ -83,13 +110,15 @@ fn apply_part<L: Ledger>(
     apply_key(&mut part.keys, stripe, ledger, entry, key);
     apply_reference(&mut part.references, stripe, ledger, entry, reference);
     apply_moves(&mut part.accounts, stripe, ledger, entry, steps);
+    apply_changes(&mut part.accounts, stripe, ledger, entry);
 }
 
-// Gives back the room of an entry.
+// Gives up the entry that was prepared last.
 fn release_part(part: &mut LedgerPart, stripe: u8, ledger: &LedgerName, entry: &Entry)
-    ensures { (done ahead : Holding) → PartTied (Some part.old) done ahead → PartTied (Some part.new) done no_holding }
+    ensures { (done ahead : Holding) → PartTied (Some part.old) done (joined ahead (own_holding stripe ledger.now entry.now)) → PartTied (Some part.new) done ahead }
 {
     release_moves(&mut part.accounts, stripe, ledger, entry);
+    forget_changes(&mut part.accounts, stripe, ledger, entry);
 }
 
 /// Makes the ledgers ready for an entry, as the last of at most `count` that are prepared.
@@ -131,9 +160,9 @@ pub fn apply_entry<L: Ledger>(
     apply_part(part, stripe, ledger, entry, names, steps);
 }
 
-/// Gives back the room of an entry.
+/// Gives up the entry that was prepared last.
 pub fn release_entry(ledgers: &mut Ledgers, stripe: u8, ledger: &LedgerName, entry: &Entry)
-    ensures { (shares coming : List Share) → LedgersTied ledgers.old shares coming → LedgersTied ledgers.new shares [] }
+    ensures { (place : ℕ) (shares coming : List Share) → LedgersTied ledgers.old shares (coming ++ shares_of stripe place (Logged ledger.now entry.now)) → LedgersTied ledgers.new shares coming }
 {
     if ledgers.find(ledger.bytes()).is_some() {
         let part = ledgers.value_mut(ledger.bytes());

@@ -2,7 +2,9 @@
 #![tactic(auto)]
 
 mod accounts;
+mod changes;
 mod entries;
+mod entry_changes;
 mod entry_moves;
 mod events;
 mod kept;

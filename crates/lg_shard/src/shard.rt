@@ -1,19 +1,20 @@
 //! What one stripe knows of the ledgers.
 
-ghost use Rattle.std.specs.Prelude.{◌≡◌, ◌+◌, ◌<◌, ◌↔◌, [], ◌∷◌, ◌++◌, drop, slice_get, Some, OnOk, OnErr, IfSome, IsNone};
+ghost use Rattle.std.specs.Prelude.{◌≡◌, ◌+◌, ◌<◌, ◌↔◌, [], ◌∷◌, ◌++◌, drop, slice_get, Some, OnOk, OnErr, IfOk, IfSome, IsNone};
 ghost use Rattle.lg_types.specs.Parts.{shares_of};
 ghost use Rattle.lg_shard.specs.Following.{Follows};
 ghost use Rattle.lg_shard.specs.Held.{all_shown, IsHeld};
-ghost use Rattle.lg_shard.specs.Shown.{AreWithinLimit, account_moves, kept_under, used_under};
+ghost use Rattle.lg_shard.specs.Shown.{AreWithinLimit, ListsExactly, account_changes, account_moves, is_known, is_moved, kept_under, used_under};
 ghost use Rattle.lg_shard.specs.State.{StripeState, placed, coming_shares};
 
 use crate::events::{apply_event, prepare_event, push_kept, release_events, take_names};
 use crate::kept::KeptEvent;
 use crate::ledgers::Ledgers;
-use crate::readers::find_index;
+use crate::readers::{find_history, find_index, is_named_in, moved_assets, named_accounts};
 use crate::slots::Slots;
-use lg_containers::{Address, Asset, Duplicate, Key, LedgerName, NoMemory, Reference};
+use lg_containers::{Address, Asset, Duplicate, Key, LedgerName, List, NoMemory, Reference};
 use lg_keys::Kept;
+use lg_meta::MetaHistory;
 use lg_moves::MoveIndex;
 use lg_runs::Steps;
 use lg_types::Event;
@@ -127,6 +128,47 @@ impl Shard {
         match self.ledgers.find(ledger.bytes()) {
             Some(part) => find_index(&part.accounts, account, asset),
             None => None,
+        }
+    }
+
+    /// The history of an account's metadata in the ledger. It may have prepared changes besides.
+    pub fn history(&self, ledger: &LedgerName, account: &Address) -> Option<&MetaHistory>
+        ensures some { IfSome result (λ history. history.now.changes ≡ account_changes self.now.shares ledger.now account.now) }
+        ensures none { IsNone result ↔ (account_changes self.now.shares ledger.now account.now ≡ []) }
+    {
+        match self.ledgers.find(ledger.bytes()) {
+            Some(part) => find_history(&part.accounts, account),
+            None => None,
+        }
+    }
+
+    /// Whether the ledger names the account: in a posting, by metadata given for it, or as a target.
+    pub fn known(&self, ledger: &LedgerName, account: &Address) -> bool
+        ensures { result ≡ is_known self.now.shares ledger.now account.now }
+    {
+        match self.ledgers.find(ledger.bytes()) {
+            Some(part) => is_named_in(&part.accounts, account),
+            None => false,
+        }
+    }
+
+    /// The accounts that the ledger names, in byte order.
+    pub fn addresses(&self, ledger: &LedgerName) -> Result<List<Address>, NoMemory>
+        ensures { IfOk result (λ names. ListsExactly names (is_known self.now.shares ledger.now)) }
+    {
+        match self.ledgers.find(ledger.bytes()) {
+            Some(part) => named_accounts(self.alloc, &part.accounts),
+            None => Ok(List::new(self.alloc)),
+        }
+    }
+
+    /// The assets in which an account of the ledger has moves, in byte order.
+    pub fn assets(&self, ledger: &LedgerName, account: &Address) -> Result<List<Asset>, NoMemory>
+        ensures { IfOk result (λ names. ListsExactly names (is_moved self.now.shares ledger.now account.now)) }
+    {
+        match self.ledgers.find(ledger.bytes()) {
+            Some(part) => moved_assets(self.alloc, &part.accounts, account),
+            None => Ok(List::new(self.alloc)),
         }
     }
 

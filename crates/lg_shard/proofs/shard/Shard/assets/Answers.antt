@@ -1,0 +1,19 @@
+use Rattle.std.proofs.Common.{ℕ, List, Some, refl, sym, subst}
+use Rattle.std.proofs.lemmas.Result.{IfOk-weaker}
+use Rattle.lg_shard.specs.Shown.{ListsExactly, is_moved}
+use Rattle.lg_shard.proofs.HeldLemmas.{assets-shown, no-assets}
+use Rattle.lg_shard.proofs.NamedLemmas.{assets-order, nothing-listed}
+use Rattle.lg_shard.proofs.shard.Shard.assets.Goals as goal
+
+pub returns-in-Some : goal.returns-in-Some
+returns-in-Some c =
+    let x = c.self.inside in let account = c.args.account.now in
+    IfOk-weaker c.moved_assets.result _ _
+    (λ names h. subst (λ (l : List (List ℕ)). ListsExactly l (is_moved c.args.self.now.shares c.args.ledger.now account)) (sym h)
+    (record { order = assets-order c.in-Some.part.now.accounts account; members = λ a. assets-shown x.stripe x.events.items x.applied x.ledgers c.self.invariant _ c.self.view_is c.args.ledger.now c.bytes.result.now c.bytes.ensures.value (Some c.in-Some.part.now) c.in-Some.ensures account a }))
+    c.moved_assets.ensures
+
+pub returns-in-None : goal.returns-in-None
+returns-in-None c =
+    let x = c.self.inside in
+    nothing-listed (is_moved c.args.self.now.shares c.args.ledger.now c.args.account.now) _ c.new.ensures (λ a. no-assets x.stripe x.events.items x.applied x.ledgers c.self.invariant _ c.self.view_is c.args.ledger.now c.bytes.result.now c.bytes.ensures.value _ c.in-None.ensures refl c.args.account.now a)
