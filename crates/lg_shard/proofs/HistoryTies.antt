@@ -34,7 +34,7 @@ of-append xs ys a = ap changes_of (on-append xs ys a) ∙ map-append (λ (d : Da
 
 -- ---- the changes of an entry have its date
 
-each-filter : {X : Type 0} (P : X → Type 0) (p : X → Bool) (xs : List X) → Each P xs → Each P (filter p xs)
+pub each-filter : {X : Type 0} (P : X → Type 0) (p : X → Bool) (xs : List X) → Each P xs → Each P (filter p xs)
 each-filter P p [] h = tt
 each-filter P p (x ∷ xs) h = kept (p x) (each-filter P p xs h.1)
   where

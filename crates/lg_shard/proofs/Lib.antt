@@ -10,3 +10,4 @@ pub mod HistoryLemmas
 pub mod HistoryTies
 pub mod NamedLemmas
 pub mod KnownLemmas
+pub mod FollowingLemmas

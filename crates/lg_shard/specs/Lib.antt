@@ -3,6 +3,7 @@ pub mod State
 pub mod Shown
 pub mod Holdings
 pub mod Following
+pub mod FollowingLaws
 -- what is kept
 pub mod Accounts
 pub mod Histories

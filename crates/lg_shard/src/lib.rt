@@ -8,6 +8,7 @@ mod entry_changes;
 mod entry_moves;
 mod events;
 mod kept;
+pub mod laws;
 mod ledgers;
 mod names;
 mod part;
