@@ -14,7 +14,7 @@ use Rattle.lg_sheet.specs.declared.stop.SheetStop.{SheetStop}
 use Rattle.lg_sheet.specs.declared.stop.SheetStop.TheVariants.{Lack, Below, Limit, NoMemory}
 use Rattle.lg_sheet.specs.declared.stop.LineStop.{LineStop}
 use Rattle.lg_sheet.specs.declared.stop.LineStop.TheVariants as line
-use Rattle.lg_sheet.specs.Trials.{tried, line_refusal, stop_at, IsToldStop}
+use Rattle.lg_sheet.specs.Trials.{tried, line_refusal, stop_at, IsToldStop, IsLackBelow, IsNoLack, IsLineLimit}
 use Rattle.lg_sheet.proofs.OrderLemmas.{got, got_below}
 
 -- the trial goes on after a posting that comes to nothing
@@ -121,3 +121,12 @@ pub whole_revert : (ms : List Placed) (ps : List Posting) (force : Bool) → tri
 whole_revert ms ps force h e =
     ap (λ o. or_else o (balances_from ms ps force)) (sym (limit_alone ms 0 ps) ∙ h)
     ∙ ap (balances_from ms ps) e
+
+-- the stop of a posting of the list, and of one that doesn't lack funds
+pub lack_below : (place count : ℕ) (stop : LineStop) → place < count → IsLackBelow count (stop_at place stop)
+lack_below place count (line.Lack balance) below = below
+lack_below place count line.Limit below = tt
+
+pub no_lack : (place : ℕ) (stop : LineStop) → IsLineLimit stop → IsNoLack (stop_at place stop)
+no_lack place (line.Lack balance) h = absurd h
+no_lack place line.Limit h = tt

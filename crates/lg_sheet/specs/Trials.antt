@@ -55,6 +55,24 @@ abbrev pub IsTold : List Posting → Result (Unit {0}) SheetStop → Option Refu
 IsTold postings (Ok done) o = o ≡ None
 IsTold postings (Err stop) o = IsToldStop postings stop o
 
+-- a posting that lacks funds stands below the number of postings
+abbrev pub IsLackBelow : ℕ → SheetStop → Type 0
+IsLackBelow count (Lack place balance) = place < count
+IsLackBelow count (Below account asset balance) = ⊤
+IsLackBelow count (Limit place) = ⊤
+IsLackBelow count NoMemory = ⊤
+
+-- it isn't for want of funds
+abbrev pub IsNoLack : SheetStop → Type 0
+IsNoLack (Lack place balance) = ⊥
+IsNoLack (Below account asset balance) = ⊤
+IsNoLack (Limit place) = ⊤
+IsNoLack NoMemory = ⊤
+
+abbrev pub IsLineLimit : LineStop → Type 0
+IsLineLimit (line.Lack balance) = ⊥
+IsLineLimit line.Limit = ⊤
+
 -- what one posting comes to after these moves, as the one at the place of its list
 abbrev pub tried : List Placed → Bool → ℕ → Posting → Option Refusal
 tried ms force place p = if lacks ms force p then Some (lack_of ms place p) else (if is_over ms p then Some (refusal.Limit place) else None)

@@ -1,13 +1,13 @@
 //! The trial of a revert: the limit over all postings first, then the balances after all of them.
 
-ghost use Rattle.std.specs.Prelude.{◌≡◌, ◌&&◌, not, pos, int_lt, List, All, OnOk, OnErr, Some};
+ghost use Rattle.std.specs.Prelude.{◌≡◌, ◌&&◌, not, pos, int_lt, List, All, OnOk, OnErr, IfErr, Some};
 ghost use Rattle.lg_base.specs.Volumes.{IsWithinLimit, balance_of};
 ghost use Rattle.lg_types.specs.declared.refusals.Refusal.TheVariants.{Below};
 ghost use Rattle.lg_types.specs.declared.records.Posting.{Posting};
 ghost use Rattle.lg_types.specs.Moves.{Placed};
 ghost use Rattle.lg_types.specs.Trial.{is_world, reverting, below_in, revert_trial_from};
 ghost use Rattle.lg_sheet.specs.Working.{IsOpen, SameVolumes};
-ghost use Rattle.lg_sheet.specs.Trials.{OfBoth, present as volumes_at, MayTry, HaveTotals, Booked, StaysWithin, IsTold, IsToldStop};
+ghost use Rattle.lg_sheet.specs.Trials.{OfBoth, present as volumes_at, MayTry, HaveTotals, Booked, StaysWithin, IsTold, IsToldStop, IsNoLack};
 
 use crate::lines::{Line, Order, line_at};
 use crate::stop::SheetStop;
@@ -30,6 +30,7 @@ pub fn book_revert<B: Balances>(
     ensures booked { OnOk result (Booked working.old working.new (reverting postings.now)) }
     ensures within { OnOk result (StaysWithin (B.totals lent.now) working.old working.new) }
     ensures stopped { OnErr result (SameVolumes working.old working.new) }
+    ensures funds { IfErr result IsNoLack }
 {
     match book(lent, working, postings, Order::Reverting, true) {
         Ok(()) => {}
@@ -55,7 +56,8 @@ fn find_below<B: Balances>(
     postings: &[Posting],
 ) -> Result<(), SheetStop>
     requires { MayTry (B.lends lent.now) (B.totals lent.now) working.now postings.now }
-    ensures { (ms : List Placed) → HaveTotals (volumes_at (B.totals lent.now) working.now) postings.now ms → IsTold (reverting postings.now) result (below_in ms (reverting postings.now)) }
+    ensures told { (ms : List Placed) → HaveTotals (volumes_at (B.totals lent.now) working.now) postings.now ms → IsTold (reverting postings.now) result (below_in ms (reverting postings.now)) }
+    ensures funds { IfErr result IsNoLack }
 {
     for place in 0..postings.len() {
         let line = line_at(postings, Order::Reverting, place);
@@ -78,7 +80,8 @@ fn is_below_zero(source: &Volumes, line: &Line<'_>) -> bool
 /// The stop at an account that would be below zero.
 fn below(alloc: Global, line: &Line<'_>, source: &Volumes) -> SheetStop
     requires { IsWithinLimit source.now }
-    ensures { (postings : List Posting) → IsToldStop postings result (Some (Below line.now.source.now line.now.asset.now (balance_of source.now))) }
+    ensures told { (postings : List Posting) → IsToldStop postings result (Some (Below line.now.source.now line.now.asset.now (balance_of source.now))) }
+    ensures funds { IsNoLack result }
 {
     let (Ok(account), Ok(asset)) = (line.source.copy(alloc), line.asset.copy(alloc)) else {
         return SheetStop::NoMemory;

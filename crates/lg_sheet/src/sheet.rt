@@ -1,11 +1,11 @@
 //! The sheet: what postings that were accepted move, account by account.
 
-ghost use Rattle.std.specs.Prelude.{List, [], ◌++◌, OnOk, OnErr};
+ghost use Rattle.std.specs.Prelude.{List, [], ◌++◌, length, OnOk, OnErr, IfErr};
 ghost use Rattle.std.specs.List.{flat_map};
 ghost use Rattle.lg_types.specs.Moves.{Placed};
 ghost use Rattle.lg_types.specs.Trial.{tried_moves, trial_from, reverting, revert_trial_from};
 ghost use Rattle.lg_sheet.specs.Working.{SameVolumes};
-ghost use Rattle.lg_sheet.specs.Trials.{MayTry, HaveTotals, Accepted, StaysWithin, IsTold};
+ghost use Rattle.lg_sheet.specs.Trials.{MayTry, HaveTotals, Accepted, StaysWithin, IsTold, IsLackBelow, IsNoLack};
 
 use crate::lines::Order;
 use crate::revert::book_revert;
@@ -58,6 +58,7 @@ impl Sheet {
         ensures told { (ms accepted : List Placed) → HaveTotals (B.totals lent.now) postings.now ms → Accepted self.old accepted → IsTold postings.now result (trial_from (ms ++ accepted) 0 postings.now force) }
         ensures accepted { OnOk result ((accepted : List Placed) → Accepted self.old accepted → Accepted self.new (accepted ++ flat_map tried_moves postings.now)) }
         ensures within { OnOk result (StaysWithin (B.totals lent.now) self.old self.new) }
+        ensures place { IfErr result (IsLackBelow (length postings.now)) }
         ensures stopped { OnErr result (SameVolumes self.old self.new) }
     {
         match open_all(self.alloc, &mut self.working, postings.as_slice()) {
@@ -83,6 +84,7 @@ impl Sheet {
         ensures told { (ms accepted : List Placed) → HaveTotals (B.totals lent.now) postings.now ms → Accepted self.old accepted → IsTold (reverting postings.now) result (revert_trial_from (ms ++ accepted) (reverting postings.now) force) }
         ensures accepted { OnOk result ((accepted : List Placed) → Accepted self.old accepted → Accepted self.new (accepted ++ flat_map tried_moves (reverting postings.now))) }
         ensures within { OnOk result (StaysWithin (B.totals lent.now) self.old self.new) }
+        ensures funds { IfErr result IsNoLack }
         ensures stopped { OnErr result (SameVolumes self.old self.new) }
     {
         match open_all(self.alloc, &mut self.working, postings.as_slice()) {

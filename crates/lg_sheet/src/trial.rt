@@ -1,6 +1,6 @@
 //! Postings that are tried and booked one after the other.
 
-ghost use Rattle.std.specs.Prelude.{◌≡◌, ◌≤◌, ◌<◌, ◌+◌, ◌^◌, ◌&&◌, not, ℕ, ℤ, pos, nat_lt, int_lt, List, length, take, All, OnOk, OnErr, IsTrue, None, Some, codes};
+ghost use Rattle.std.specs.Prelude.{◌≡◌, ◌≤◌, ◌<◌, ◌+◌, ◌^◌, ◌&&◌, not, ℕ, ℤ, pos, nat_lt, int_lt, List, length, take, All, OnOk, OnErr, IfErr, IfSome, IsTrue, None, Some, codes};
 ghost use Rattle.std.specs.List.{flat_map};
 ghost use Rattle.std.specs.Str.{bytes_eq};
 ghost use Rattle.lg_base.specs.Volumes.{IsWithinLimit, balance_of, sum_of};
@@ -8,7 +8,7 @@ ghost use Rattle.lg_types.specs.Moves.{Placed, total};
 ghost use Rattle.lg_types.specs.Trial.{is_world, passes_limit, tried_moves, trial_from};
 ghost use Rattle.lg_sheet.specs.Lines.{posting_of, ordered};
 ghost use Rattle.lg_sheet.specs.Working.{worked, IsOpen, StaysOpen, SameVolumes};
-ghost use Rattle.lg_sheet.specs.Trials.{OfBoth, present as volumes_at, MayTry, HaveTotals, Booked, StaysWithin, IsTold, tried, line_refusal, HasRoom};
+ghost use Rattle.lg_sheet.specs.Trials.{OfBoth, present as volumes_at, MayTry, HaveTotals, Booked, StaysWithin, IsTold, tried, line_refusal, HasRoom, IsLackBelow, IsNoLack, IsLineLimit};
 ghost use Rattle.lg_sheet.specs.Back.{HasBooked};
 
 use crate::lines::{Line, Order, line_at};
@@ -35,6 +35,8 @@ pub fn book<B: Balances>(
     ensures stopped { OnErr result (SameVolumes working.old working.new) }
     ensures stays { StaysOpen working.old working.new }
     ensures within { OnOk result (StaysWithin (B.totals lent.now) working.old working.new) }
+    ensures place { IfErr result (IsLackBelow (length postings.now)) }
+    ensures forced { IsTrue force → IfErr result IsNoLack }
 {
     for place in 0..postings.len() {
         let line = line_at(postings, order, place);
@@ -76,6 +78,7 @@ fn try_line<B: Balances>(
     requires source { IsWithinLimit (volumes_at (B.totals lent.now) working.now line.now.source.now line.now.asset.now) }
     requires destination { IsWithinLimit (volumes_at (B.totals lent.now) working.now line.now.destination.now line.now.asset.now) }
     ensures tried { (ms : List Placed) (place : ℕ) → total ms line.now.source.now line.now.asset.now ≡ volumes_at (B.totals lent.now) working.now line.now.source.now line.now.asset.now → total ms line.now.destination.now line.now.asset.now ≡ volumes_at (B.totals lent.now) working.now line.now.destination.now line.now.asset.now → line_refusal place (posting_of line.now) result ≡ tried ms force place (posting_of line.now) }
+    ensures forced { IsTrue force → IfSome result IsLineLimit }
     ensures room { result ≡ None → HasRoom (volumes_at (B.totals lent.now) working.now line.now.source.now line.now.asset.now) (volumes_at (B.totals lent.now) working.now line.now.destination.now line.now.asset.now) line.now.amount }
 {
     let source = present(lent, working, line.source, line.asset);

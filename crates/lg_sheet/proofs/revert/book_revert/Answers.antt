@@ -26,10 +26,10 @@ pub returns-in-Ok-find_below-clause-told : goal.returns-in-Ok-find_below-clause-
 returns-in-Ok-find_below-clause-told g c = λ ms have.
     let qs = reverting c.args.postings.now in
     whole_revert ms qs c.args.force (c.in-Ok.ensures.told ms have) c.if-force.false
-    ∙ c.in-Ok-find_below.ensures (ms ++ flat_map tried_moves qs) (totals_now (g.B.Balances.totals c.args.lent.now) c.args.working.now c.book.new.working qs c.args.postings.now ms c.in-Ok.ensures.booked have)
+    ∙ c.in-Ok-find_below.ensures.told (ms ++ flat_map tried_moves qs) (totals_now (g.B.Balances.totals c.args.lent.now) c.args.working.now c.book.new.working qs c.args.postings.now ms c.in-Ok.ensures.booked have)
 
 pub returns-in-Err-find_below-clause-told : goal.returns-in-Err-find_below-clause-told
 returns-in-Err-find_below-clause-told g c = λ ms have.
     let qs = reverting c.args.postings.now in
     subst (IsToldStop qs c.in-Err-find_below.stop) (sym (whole_revert ms qs c.args.force (c.in-Ok.ensures.told ms have) c.if-force.false))
-    (c.in-Err-find_below.ensures (ms ++ flat_map tried_moves qs) (totals_now (g.B.Balances.totals c.args.lent.now) c.args.working.now c.book.new.working qs c.args.postings.now ms c.in-Ok.ensures.booked have))
+    (c.in-Err-find_below.ensures.told (ms ++ flat_map tried_moves qs) (totals_now (g.B.Balances.totals c.args.lent.now) c.args.working.now c.book.new.working qs c.args.postings.now ms c.in-Ok.ensures.booked have))

@@ -29,8 +29,8 @@ below-requires g c =
     subst IsWithinLimit (sym c.present-source.ensures)
     (both_at (λ account asset. IsWithinLimit (present (g.B.Balances.totals c.args.lent.now) c.args.working.now account asset)) Reverting c.args.postings.now c.loop-place.place (posting_of c.line_at-line.result) c.requires.within c.line_at-line.ensures).source
 
-pub returns-then-is_below_zero : goal.returns-then-is_below_zero
-returns-then-is_below_zero g c = λ ms have.
+pub returns-then-is_below_zero-clause-told : goal.returns-then-is_below_zero-clause-told
+returns-then-is_below_zero-clause-told g c = λ ms have.
     let p = posting_of c.line_at-line.result in
     let qs = reverting c.args.postings.now in
     let both = both_at (λ account asset. total ms account asset ≡ present (g.B.Balances.totals c.args.lent.now) c.args.working.now account asset) Reverting c.args.postings.now c.loop-place.place p have.each c.line_at-line.ensures in
@@ -40,7 +40,7 @@ returns-then-is_below_zero g c = λ ms have.
     ∙ below_here ms qs c.loop-place.place p c.line_at-line.ensures
     (ap (λ v. not (is_world p.source) && int_lt (balance_of v) (pos 0)) (sym same) ∙ sym c.is_below_zero.ensures ∙ c.if-is_below_zero.true)
     (c.loop-place.invariant.rest ms have))
-    (c.below.ensures qs)
+    (c.below.ensures.told qs)
 
 pub loop-place-preserved : goal.loop-place-preserved
 loop-place-preserved g c = record {

@@ -1,15 +1,15 @@
-use Rattle.std.proofs.Common.{◌≡◌, ◌∙◌, ◌++◌, IsTrue, take, sym, ap, subst}
+use Rattle.std.proofs.Common.{◌≡◌, ◌∙◌, ◌++◌, IsTrue, IfSome, length, take, sym, ap, subst}
 use Rattle.std.specs.List.{flat_map}
 use Rattle.lg_base.specs.Volumes.{IsWithinLimit}
 use Rattle.lg_types.specs.Moves.{total}
 use Rattle.lg_types.specs.Trial.{tried_moves, trial_from}
 use Rattle.lg_sheet.specs.Lines.{posting_of, ordered}
 use Rattle.lg_sheet.specs.Working.{IsOpen}
-use Rattle.lg_sheet.specs.Trials.{present, line_refusal, IsToldStop}
+use Rattle.lg_sheet.specs.Trials.{present, line_refusal, IsToldStop, IsLackBelow, IsNoLack, IsLineLimit}
 use Rattle.lg_sheet.proofs.OrderLemmas.{both_at}
 use Rattle.lg_sheet.proofs.WorkingLemmas.{stays_twice}
 use Rattle.lg_sheet.proofs.BookLemmas.{booked_next, total_now, within_next, within_twice, has_booked}
-use Rattle.lg_sheet.proofs.TrialLemmas.{told_here, goes_here}
+use Rattle.lg_sheet.proofs.TrialLemmas.{told_here, goes_here, lack_below, no_lack}
 use Rattle.lg_sheet.proofs.trial.book.Goals as goal
 
 pub try_line-requires-clause-lent_source : goal.try_line-requires-clause-lent_source
@@ -44,6 +44,14 @@ returns-in-Some-clause-told g c = λ ms have.
     (total_now totals c.args.working.now c.loop-place.working (take c.loop-place.place qs) ms p.destination p.asset c.loop-place.invariant.booked both.destination) in
     subst (λ stop. IsToldStop qs stop (trial_from ms 0 qs c.args.force)) (sym c.stop_at.ensures)
     (told_here c.args.force ms qs c.loop-place.place p c.line_at-line.ensures c.in-Some.stop (ap (line_refusal c.loop-place.place p) (sym c.in-Some.is) ∙ here) (c.loop-place.invariant.rest ms have))
+
+pub returns-in-Some-clause-place : goal.returns-in-Some-clause-place
+returns-in-Some-clause-place g c = subst (IsLackBelow (length c.args.postings.now)) (sym c.stop_at.ensures) (lack_below c.loop-place.place (length c.args.postings.now) c.in-Some.stop c.loop-place-test.true)
+
+pub returns-in-Some-clause-forced : goal.returns-in-Some-clause-forced
+returns-in-Some-clause-forced g c = λ forced.
+    subst IsNoLack (sym c.stop_at.ensures)
+    (no_lack c.loop-place.place c.in-Some.stop (subst (λ o. IfSome o IsLineLimit) c.in-Some.is (c.try_line.ensures.forced forced)))
 
 pub add_line-requires-clause-source : goal.add_line-requires-clause-source
 add_line-requires-clause-source g c =
