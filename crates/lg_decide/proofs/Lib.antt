@@ -1,4 +1,3 @@
 pub mod EntryLemmas
 pub mod RevertLemmas
-pub mod StripeLemmas
 pub mod WriteLemmas

@@ -13,7 +13,8 @@ use Rattle.lg_types.specs.Trial.{revert_trial, reverting}
 use Rattle.lg_views.specs.declared.decided.Decided.TheVariants.{Denied}
 use Rattle.lg_views.specs.Writes.{granted_unless, revert_body, revert_decided, decided}
 use Rattle.lg_decide.specs.declared.looked.Looked.{Looked}
-use Rattle.lg_decide.specs.Looking.{Shows, transaction_in, undone_by, write_trial}
+use Rattle.lg_decide.specs.Looking.{Shows, transaction_in, undone_by}
+use Rattle.lg_weigh.specs.Trials.{write_trial}
 
 -- one more item of a list that is taken over item by item
 pub next_of : {X Y : Type 0} (f : X → Y) (xs : List X) (i : ℕ) (x : X) (ys : List Y) → i < length xs → x ≡ get_or xs i x → ys ≡ map f (take i xs) → ys ++ f x ∷ [] ≡ map f (take (i + 1) xs)

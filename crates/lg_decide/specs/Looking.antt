@@ -9,9 +9,9 @@ use Rattle.lg_types.specs.declared.records.Target.TheVariants.{Account, Transact
 use Rattle.lg_types.specs.declared.records.Transaction.{Transaction}
 use Rattle.lg_types.specs.declared.refusals.Refusal.{Refusal}
 use Rattle.lg_types.specs.Known.{Dated, Undoing, find_transaction, undone, transactions, used}
-use Rattle.lg_types.specs.Trial.{trial, revert_trial, reverting}
 use Rattle.lg_decide.specs.declared.looked.Looked.{Looked}
-use Rattle.lg_decide.specs.Reach.{write_reference}
+use Rattle.lg_weigh.specs.Reach.{write_reference}
+use Rattle.lg_weigh.specs.Trials.{write_trial}
 
 abbrev pub transaction_in : Dated → Transaction
 transaction_in d = d.transaction
@@ -35,14 +35,6 @@ transaction_at g id = option_map transaction_in (find_transaction g id)
 
 abbrev pub reverted_by : List Entry → ℕ → Option ℕ
 reverted_by g id = option_map undone_by (undone g id)
-
--- the refusal of the postings of a creation, and of a revert whose transaction is known
-abbrev pub write_trial : List Entry → Write → Option Transaction → Option Refusal
-write_trial g (Create postings reference timestamp metadata accounts force) known = trial g postings force
-write_trial g (Revert id force at_effective_date) None = None
-write_trial g (Revert id force at_effective_date) (Some t) = revert_trial g (reverting t.postings) force
-write_trial g (SetMeta target metadata) known = None
-write_trial g (DropMeta target name) known = None
 
 -- what was looked up and tried is what the log says
 pub record Shows (g : List Entry) (write : Write) (looked : Looked) (tried : Option Refusal) : Type 0 where

@@ -1,7 +1,7 @@
-use Rattle.std.proofs.Common.{◌≡◌, ◌||◌, ◌∙◌, ap, sym, refl, arith}
+use Rattle.std.proofs.Common.{◌||◌, ◌∙◌, ap, sym}
 use Rattle.lg_turns.specs.Stripes.{has}
-use Rattle.lg_decide.proofs.StripeLemmas.{has_posting, has_name, posting_next, none_left}
-use Rattle.lg_decide.proofs.stripes.with_postings.Goals as goal
+use Rattle.lg_weigh.proofs.StripeLemmas.{has_posting, has_name, posting_next, none_left}
+use Rattle.lg_weigh.proofs.stripes.with_postings.Goals as goal
 
 pub loop-posting-preserved : goal.loop-posting-preserved
 loop-posting-preserved c = λ k.

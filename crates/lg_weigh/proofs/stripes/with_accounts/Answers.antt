@@ -1,13 +1,8 @@
-use Rattle.std.proofs.Common.{◌≡◌, ◌||◌, ◌++◌, ◌∙◌, map, ap, ap₂, sym}
-use Rattle.std.specs.Option.{option_copied}
-use Rattle.std.specs.List.{flat_map, list_any}
-use Rattle.lg_containers.specs.NameTable.{keys, pairs_of, keys-pairs}
+use Rattle.std.specs.List.{flat_map}
 use Rattle.lg_types.specs.Known.{posting_accounts}
-use Rattle.lg_types.specs.Parts.{account_resource, is_in}
 use Rattle.lg_turns.specs.Stripes.{has}
-use Rattle.lg_decide.specs.Reach.{first_of, write_accounts}
-use Rattle.lg_decide.proofs.StripeLemmas.{has_posting, has_of, accounts_apart}
-use Rattle.lg_decide.proofs.stripes.with_accounts.Goals as goal
+use Rattle.lg_weigh.proofs.StripeLemmas.{accounts_apart}
+use Rattle.lg_weigh.proofs.stripes.with_accounts.Goals as goal
 
 pub returns-in-Create : goal.returns-in-Create
 returns-in-Create c = λ k.

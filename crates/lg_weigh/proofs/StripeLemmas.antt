@@ -1,5 +1,5 @@
 -- Sets of stripes that grow by the stripes of accounts.
-use Rattle.std.proofs.Common.{◌≡◌, ℕ, ◌+◌, ◌<◌, ◌≤◌, Bool, true, false, ◌||◌, List, [], ◌∷◌, ◌++◌, map, length, drop, get_or, refl, sym, ◌∙◌, ap, ap₂, arith}
+use Rattle.std.proofs.Common.{◌≡◌, ℕ, ◌+◌, ◌<◌, ◌≤◌, Bool, true, false, ◌||◌, List, [], ◌∷◌, ◌++◌, map, length, drop, get_or, refl, sym, ◌∙◌, ap, arith}
 use Rattle.std.specs.Prelude.{nat_eq}
 use Rattle.std.specs.List.{list_any, flat_map}
 use Rattle.std.proofs.lemmas.List.{drop_more, drop_all}
@@ -8,7 +8,7 @@ use Rattle.lg_types.specs.declared.records.Posting.{Posting}
 use Rattle.lg_types.specs.Known.{posting_accounts}
 use Rattle.std.proofs.lemmas.List.{map-append}
 use Rattle.lg_containers.specs.NameTable.{NameTable, pairs_of, keys, keys-pairs}
-use Rattle.lg_decide.specs.Reach.{first_of}
+use Rattle.lg_weigh.specs.Reach.{first_of}
 use Rattle.lg_types.specs.Parts.{account_resource, is_in}
 
 pub or_false : (b : Bool) → (b || false) ≡ b

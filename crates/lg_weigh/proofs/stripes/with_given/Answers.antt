@@ -1,8 +1,8 @@
-use Rattle.std.proofs.Common.{◌≡◌, ◌||◌, ◌∙◌, ap, sym}
+use Rattle.std.proofs.Common.{◌||◌, ◌∙◌, ap, sym}
 use Rattle.lg_turns.specs.Stripes.{has}
-use Rattle.lg_decide.specs.Reach.{first_of}
-use Rattle.lg_decide.proofs.StripeLemmas.{has_of, has_name, name_next, none_left}
-use Rattle.lg_decide.proofs.stripes.with_given.Goals as goal
+use Rattle.lg_weigh.specs.Reach.{first_of}
+use Rattle.lg_weigh.proofs.StripeLemmas.{has_of, has_name, name_next, none_left}
+use Rattle.lg_weigh.proofs.stripes.with_given.Goals as goal
 
 pub loop-pair-preserved : goal.loop-pair-preserved
 loop-pair-preserved c = λ k.

@@ -8,7 +8,7 @@ ghost use Rattle.lg_types.specs.Known.{posting_accounts, target_accounts, transa
 ghost use Rattle.lg_types.specs.Parts.{account_resource, is_in};
 ghost use Rattle.lg_types.specs.Stripes.{stripe};
 ghost use Rattle.lg_turns.specs.Stripes.{has};
-ghost use Rattle.lg_decide.specs.Reach.{needs, named_key, named_reference, write_resources, write_accounts, write_reference, has_reach, read_reach, first_of};
+ghost use Rattle.lg_weigh.specs.Reach.{needs, named_key, named_reference, write_resources, write_accounts, write_reference, has_reach, read_reach, first_of};
 
 use lg_containers::Address;
 use lg_shard::stripe_of;
@@ -63,7 +63,7 @@ fn of_write(
 }
 
 /// The reference that a creation gives.
-fn reference_of(write: &Write) -> Option<&Reference>
+pub fn reference_of(write: &Write) -> Option<&Reference>
     ensures { option_copied result ≡ write_reference write.now }
 {
     match write {

@@ -1,8 +1,8 @@
 use Rattle.std.proofs.Common.{◌≡◌, ℕ, ◌||◌, drop}
 use Rattle.lg_turns.specs.Stripes.{has}
-use Rattle.lg_decide.specs.Reach.{first_of}
-use Rattle.lg_decide.proofs.StripeLemmas.{has_of}
-use Rattle.lg_decide.proofs.stripes.with_given.Given as goal
+use Rattle.lg_weigh.specs.Reach.{first_of}
+use Rattle.lg_weigh.proofs.StripeLemmas.{has_of}
+use Rattle.lg_weigh.proofs.stripes.with_given.Given as goal
 
 abbrev pub invariant-loop-pair : goal.invariant-loop-pair
 invariant-loop-pair l = (k : ℕ) → (has_of k l.ledger first_of (drop l.pair-index l.given) || has l.all k) ≡ (has_of k l.ledger first_of l.given || has l.fn.set k)

@@ -1,0 +1,10 @@
+use Rattle.std.proofs.Common.{◌∙◌, sym, ap}
+use Rattle.lg_types.specs.declared.classes.Class.TheVariants.{Key as KeyClass}
+use Rattle.lg_types.specs.Stripes.{stripe}
+use Rattle.lg_weigh.proofs.WeighLemmas.{key_known}
+use Rattle.lg_weigh.proofs.weighing.find_key.Goals as goal
+
+pub returns : goal.returns
+returns g c = λ events part.
+    let there = ap (g.S.Shards.lent c.args.lent.now) (sym (c.stripe_of.ensures.value ∙ ap (stripe KeyClass c.args.ledger.now) c.bytes.ensures.value)) ∙ sym c.in-Some.ensures.lent in
+    c.key.ensures ∙ key_known c.args.ledger.now c.args.key.now events c.in-Some.shard.now (g.S.Shards.lent c.args.lent.now (stripe KeyClass c.args.ledger.now c.args.key.now)) there part

@@ -1,0 +1,5 @@
+pub mod Lent
+pub mod Reach
+pub mod Totals
+pub mod Trials
+pub mod Weighing
