@@ -1,0 +1,9 @@
+use Rattle.std.proofs.Common.{List, []}
+use Rattle.lg_types.specs.declared.records.Event.{Event}
+use Rattle.lg_plan.specs.Events.{AreShards}
+use Rattle.lg_plan.specs.Plans.{Fits}
+use Rattle.lg_plan.specs.Stages.{AreTurned, shards_at}
+use Rattle.lg_plan.proofs.carry.prepare_on_shards.Given as goal
+
+abbrev pub invariant-loop-stripe : goal.invariant-loop-stripe
+invariant-loop-stripe l = (es : List Event) → Fits l.plan es → AreShards es [] l.fn.shards.items → AreTurned l.stripe (shards_at es []) (shards_at es l.plan.events) l.shards.items
