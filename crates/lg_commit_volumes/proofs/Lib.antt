@@ -1,0 +1,6 @@
+pub mod SumLemmas
+pub mod TestLemmas
+pub mod MapLemmas
+pub mod SideLemmas
+pub mod EntryLemmas
+pub mod AroundLemmas

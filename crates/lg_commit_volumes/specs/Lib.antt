@@ -1,0 +1,3 @@
+pub mod Lent
+pub mod Before
+pub mod Maps

@@ -1,0 +1,15 @@
+//! The volumes before and after a new transaction, read from lent shards.
+#![tactic(auto)]
+
+mod before;
+mod first;
+mod maps;
+mod pairs;
+mod sums;
+
+pub use first::first_volumes;
+pub use lg_base::NoMemory;
+pub use lg_book::FirstVolumes;
+
+#[cfg(test)]
+mod tests;
