@@ -1,5 +1,5 @@
 -- What lent shards, and earlier entries of the same list of writes, know of the accounts of a transaction.
-use Rattle.std.specs.Prelude.{◌≡◌, ◌<◌, ℕ, List, [], ◌∷◌, ◌++◌, All, Option, Some, None, IsSome}
+use Rattle.std.specs.Prelude.{◌≡◌, ◌<◌, ℕ, List, [], ◌∷◌, ◌++◌, All, Option, Some, None, IsSome, IsSomeAnd}
 use Rattle.std.specs.List.{flat_map}
 use Rattle.lg_base.specs.Volumes.{sum_of, IsWithinLimit}
 use Rattle.lg_types.specs.declared.classes.Class.TheVariants.{Account as AccountClass}
@@ -17,10 +17,9 @@ use Rattle.lg_types.specs.Trial.{tried_moves}
 use Rattle.lg_shard.specs.Shown.{account_moves}
 use Rattle.lg_shard.specs.State.{StripeState}
 
--- the shard of a stripe, where it is lent, and it is the stripe's part of the events
+-- a shard that is lent, and it is the part of the stripe in the events
 abbrev pub IsPart : ℕ → List Event → Option StripeState → Type 0
-IsPart s events None = ⊥
-IsPart s events (Some state) = state.shares ≡ part_of s events
+IsPart s events o = IsSomeAnd o (λ state. state.shares ≡ part_of s events)
 
 -- the moves of an account and an asset that a lent shard knows
 abbrev pub shard_moves : Option StripeState → List ℕ → List ℕ → List ℕ → List Move

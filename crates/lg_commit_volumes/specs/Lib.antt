@@ -1,3 +1,4 @@
 pub mod Lent
 pub mod Before
 pub mod Maps
+pub mod Examples

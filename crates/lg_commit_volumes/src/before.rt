@@ -69,11 +69,7 @@ fn shard_before(
     }
 }
 
-fn index_before<L: Ledger>(
-    index: &MoveIndex,
-    transaction: &Transaction,
-    blank: Blank,
-) -> PairBefore
+fn index_before<L: Ledger>(index: &MoveIndex, transaction: &Transaction, blank: Blank) -> PairBefore
     requires name { blank.name ≡ L.name }
     requires parts { blank.parts ≡ L.parts }
     requires some { 0 < L.parts }

@@ -67,14 +67,7 @@ fn put_posting<S: Shards>(
     ensures { OnOk result (maps.new ≡ put_both (λ account asset. around transaction.now (before_of transaction.now (moves_before (S.lent shards.now) ledger.now earlier.now account asset)) account asset) maps.old posting.now) }
 {
     let asset = &posting.asset;
-    let volumes = pair_volumes(
-        shards,
-        ledger,
-        earlier,
-        transaction,
-        &posting.source,
-        asset,
-    );
+    let volumes = pair_volumes(shards, ledger, earlier, transaction, &posting.source, asset);
     put_pair_volumes(alloc, maps, &posting.source, asset, &volumes)?;
     let volumes = pair_volumes(
         shards,

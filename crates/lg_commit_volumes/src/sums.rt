@@ -40,7 +40,10 @@ fn posting_volumes(posting: &Posting, account: &Address, asset: &Asset) -> Volum
 {
     let is_asset = posting.asset.bytes() == asset.bytes();
     Volumes {
-        input: amount_if(is_of(&posting.destination, account) && is_asset, posting.amount),
+        input: amount_if(
+            is_of(&posting.destination, account) && is_asset,
+            posting.amount,
+        ),
         output: amount_if(is_of(&posting.source, account) && is_asset, posting.amount),
     }
 }
