@@ -4,3 +4,4 @@ pub mod MapLemmas
 pub mod SideLemmas
 pub mod EntryLemmas
 pub mod AroundLemmas
+pub mod ExampleLemmas

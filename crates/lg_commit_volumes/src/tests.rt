@@ -1,6 +1,7 @@
 //! Worked examples over shards that hold nothing yet, and over entries that no shard has.
 
-ghost use Rattle.std.specs.Prelude.{◌≡◌, ◌+◌, ◌^◌, ◌<◌, [], ◌∷◌, IfOk, sum_by};
+ghost use Rattle.std.specs.Prelude.{◌≡◌, ◌+◌, ◌^◌, ◌<◌, [], ◌∷◌, IfOk, slice_get, sum_by};
+ghost use Rattle.std.specs.Option.{option_copied};
 ghost use Rattle.lg_commit_volumes.specs.Examples.{units_of, entry_units, shards_to};
 
 use crate::{FirstVolumes, first_volumes};
@@ -38,11 +39,17 @@ impl Shards for Fresh {
     ghost lent = { λ f k. slice_get f k };
 
     fn shard(&self, stripe: u8) -> Option<&Shard> {
-        self.shards.get(usize::from(stripe))
+        shard_at(&self.shards, usize::from(stripe))
     }
 }
 
-fn fresh(alloc: Global) -> Result<Fresh, Fail>
+fn shard_at(shards: &[Shard], place: usize) -> Option<&Shard>
+    ensures { option_copied result ≡ slice_get shards.now place }
+{
+    shards.get(place)
+}
+
+fn sixteen_shards(alloc: Global) -> Result<Fresh, Fail>
     ensures { IfOk result (λ f. f ≡ shards_to 16) }
 {
     let mut shards = Vec::new(alloc);
@@ -121,7 +128,7 @@ fn volumes_of(
     requires { sum_by entry_units earlier.now + units_of transaction.now.postings < 2 ^ 127 }
 {
     let ledger: LedgerName = Name::read(alloc, b"default")?;
-    let shards = fresh(alloc)?;
+    let shards = sixteen_shards(alloc)?;
     Ok(first_volumes(alloc, &shards, &ledger, earlier, transaction)?)
 }
 
