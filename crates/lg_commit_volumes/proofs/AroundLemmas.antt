@@ -1,6 +1,5 @@
 -- What the shards and the earlier entries know of a pair is what the log knows, and gives the four volumes of a transaction.
-use Rattle.std.proofs.Common.{◌≡◌, ℕ, ◌<◌, ℤ, Bool, List, [], ◌∷◌, ◌++◌, map, Option, Some, None, refl, sym, ap, ap₂, subst, ◌∙◌}
-use Rattle.std.specs.Prelude.{All}
+use Rattle.std.proofs.Common.{◌≡◌, ℕ, ℤ, Bool, List, [], ◌∷◌, ◌++◌, map, Option, Some, None, refl, sym, ap, ap₂, subst, ◌∙◌}
 use Rattle.std.specs.List.{flat_map}
 use Rattle.lg_base.specs.declared.amounts.Volumes.{Volumes}
 use Rattle.lg_base.specs.Volumes.{sum_of, IsWithinLimit}
@@ -12,7 +11,7 @@ use Rattle.lg_types.specs.declared.records.Transaction.{Transaction}
 use Rattle.lg_types.specs.Known.{transactions, posting_accounts}
 use Rattle.lg_types.specs.Lists.{Each}
 use Rattle.lg_types.specs.Log.{log}
-use Rattle.lg_types.specs.Moves.{Placed, body_transaction, transaction_moves, entry_moves, moves, pair_moves, volumes, total, posting_moves}
+use Rattle.lg_types.specs.Moves.{Placed, body_transaction, transaction_moves, moves, pair_moves, volumes, total}
 use Rattle.lg_types.specs.Stripes.{stripe}
 use Rattle.lg_types.specs.Tally.{total_of, is_of_transaction_to, is_of_transaction_before, is_ranked_to, is_ranked_before}
 use Rattle.lg_types.specs.Trial.{tried_moves}

@@ -1,10 +1,9 @@
 -- What one entry adds to the volumes before a transaction.
-use Rattle.std.proofs.Common.{◌≡◌, ℕ, ℤ, Bool, true, false, cond, List, Option, Some, None, refl, sym, ap, ap₂, subst, ◌∙◌}
+use Rattle.std.proofs.Common.{◌≡◌, ℕ, Bool, true, false, cond, List, Some, None, refl, sym, ap, subst, ◌∙◌}
 use Rattle.std.specs.List.{flat_map}
 use Rattle.lg_base.specs.declared.amounts.Volumes.{Volumes}
 use Rattle.lg_base.specs.Volumes.{sum_of, IsWithinLimit}
 use Rattle.lg_types.specs.declared.records.Entry.{Entry}
-use Rattle.lg_types.specs.declared.records.Posting.{Posting}
 use Rattle.lg_types.specs.declared.records.Transaction.{Transaction}
 use Rattle.lg_types.specs.Moves.{body_transaction, transaction_moves, entry_moves, volumes, total}
 use Rattle.lg_types.specs.Trial.{tried_moves}

@@ -18,7 +18,7 @@ use Rattle.lg_types.specs.declared.records.Entry.{Entry}
 use Rattle.lg_types.specs.declared.records.Posting.{Posting}
 use Rattle.lg_types.specs.declared.records.Transaction.{Transaction}
 use Rattle.lg_types.specs.MoveLaws.{posting_volumes}
-use Rattle.lg_types.specs.Moves.{Placed, body_transaction, transaction_moves, entry_moves, moves, pair_moves, total}
+use Rattle.lg_types.specs.Moves.{body_transaction, transaction_moves, entry_moves, moves, pair_moves, total}
 use Rattle.lg_types.specs.Stripes.{stripe}
 use Rattle.lg_types.specs.Tally.{total_of}
 use Rattle.lg_types.specs.Trial.{tried_moves}
@@ -26,7 +26,7 @@ use Rattle.lg_types.proofs.Limits.{total-posting, total-postings}
 use Rattle.lg_types.proofs.MoveSums.{volumes-append}
 use Rattle.lg_shard.specs.State.{StripeState}
 use Rattle.lg_commit_volumes.specs.Examples.{amount_of, units_of, made_units, entry_units, fresh_state, shards_to}
-use Rattle.lg_commit_volumes.specs.Lent.{IsLent, IsPairWithin, shard_moves, moves_before}
+use Rattle.lg_commit_volumes.specs.Lent.{IsLent, IsPairWithin, shard_moves}
 
 -- ---- shards without shares
 

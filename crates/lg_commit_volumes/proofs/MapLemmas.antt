@@ -1,5 +1,5 @@
 -- The four maps, as they grow pair by pair.
-use Rattle.std.proofs.Common.{◌≡◌, ℕ, ◌+◌, ◌<◌, ◌≤◌, ℤ, Bool, true, false, cond, List, [], ◌∷◌, map, length, drop, get_or, Option, Some, None, Result, Ok, Err, OnOk, refl, sym, ap, ap₂, subst, ◌∙◌}
+use Rattle.std.proofs.Common.{◌≡◌, ℕ, ◌+◌, ◌<◌, ◌≤◌, ℤ, Bool, true, false, cond, List, [], ◌∷◌, map, length, drop, get_or, Option, Some, None, Result, Ok, Err, OnOk, refl, sym, ap, ap₂, ◌∙◌}
 use Rattle.std.specs.Prelude.{unwrap_or}
 use Rattle.std.specs.List.{flat_map}
 use Rattle.std.specs.Ordering.{eq_by_cmp}
@@ -12,9 +12,8 @@ use Rattle.lg_types.specs.Lists.{Each}
 use Rattle.lg_types.specs.Moves.{posting_moves}
 use Rattle.lg_views.specs.Pairs.{AccountMap, AssetMap, pair_of, put_pair, with_pairs, pair_map}
 use Rattle.lg_book.specs.declared.volumes.FirstVolumes.{FirstVolumes}
-use Rattle.lg_book.specs.FirstVolumes.{no_volumes}
 use Rattle.lg_commit_volumes.specs.declared.pairs.PairVolumes.{PairVolumes}
-use Rattle.lg_commit_volumes.specs.Maps.{put_four, put_both, put_all}
+use Rattle.lg_commit_volumes.specs.Maps.{put_both, put_all}
 use Rattle.lg_commit_volumes.proofs.SumLemmas.{left_here}
 
 -- a name that was taken out and put back with a value has that value

@@ -1,5 +1,5 @@
 -- Sums of volumes, and the volumes of moves one list after the other.
-use Rattle.std.proofs.Common.{◌≡◌, ℕ, ◌+◌, ◌<◌, ◌≤◌, ℤ, Bool, true, false, cond, List, [], ◌∷◌, ◌++◌, length, drop, get_or, refl, sym, ap, ap₂, subst, ◌∙◌, arith}
+use Rattle.std.proofs.Common.{◌≡◌, ℕ, ◌+◌, ◌<◌, ◌≤◌, Bool, true, false, cond, List, [], ◌∷◌, ◌++◌, length, drop, get_or, refl, sym, ap, subst, ◌∙◌, arith}
 use Rattle.std.specs.List.{flat_map, sum_by}
 use Rattle.std.proofs.lemmas.List.{drop_more, drop_all}
 use Rattle.std.proofs.lemmas.List.Sums.{sum_by-le-sum_by}
@@ -11,7 +11,7 @@ use Rattle.lg_types.specs.declared.records.Posting.{Posting}
 use Rattle.lg_types.specs.declared.records.Transaction.{Transaction}
 use Rattle.lg_types.specs.MoveLaws.{posting_volumes}
 use Rattle.lg_types.specs.Moves.{Placed, entry_moves, moves, pair_moves, volumes, total}
-use Rattle.lg_types.specs.Tally.{amount_in, amount_out, if_passing, tally, total_of}
+use Rattle.lg_types.specs.Tally.{amount_in, amount_out, if_passing, total_of}
 use Rattle.lg_types.specs.Trial.{tried_moves}
 use Rattle.lg_types.proofs.MoveSums.{same_volumes, tally-append, volumes-append}
 use Rattle.lg_types.proofs.Limits.{total-posting}

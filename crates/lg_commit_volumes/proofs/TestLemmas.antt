@@ -1,13 +1,11 @@
 -- Moves that all pass a test alike, and the tests of a transaction at the moves of others and at its own.
-use Rattle.std.proofs.Common.{◌≡◌, ℕ, ◌+◌, ◌<◌, ◌≤◌, ℤ, Bool, true, false, cond, ◌&&◌, ◌||◌, List, [], ◌∷◌, ◌++◌, map, Option, Some, None, Ordering, Less, Equal, Greater, refl, sym, ap, ap₂, subst, ◌∙◌, arith}
+use Rattle.std.proofs.Common.{◌≡◌, ℕ, ◌+◌, ◌<◌, ℤ, Bool, true, false, cond, ◌&&◌, ◌||◌, List, [], ◌∷◌, ◌++◌, map, Option, Some, None, Less, Equal, Greater, refl, sym, ap, ap₂, subst, ◌∙◌, arith}
 use Rattle.std.specs.Prelude.{nat_lt, nat_le, int_lt}
-use Rattle.std.specs.Ordering.{int_cmp, int_eq}
+use Rattle.std.specs.Ordering.{int_eq}
 use Rattle.std.specs.List.{sum_by, flat_map, filter}
 use Rattle.std.proofs.lemmas.Bool.Decides.{nat_tests, Decides-int_eq}
 use Rattle.std.proofs.lemmas.Cmp.{tied_itself, int_cmp_total}
 use Rattle.std.proofs.lemmas.List.Sums.{sum_by-cons}
-use Rattle.lg_base.specs.declared.amounts.Volumes.{Volumes}
-use Rattle.lg_base.specs.Volumes.{sum_of}
 use Rattle.lg_types.specs.declared.moves.Move.{Move}
 use Rattle.lg_types.specs.declared.records.Entry.{Entry}
 use Rattle.lg_types.specs.declared.records.Posting.{Posting}
@@ -15,7 +13,7 @@ use Rattle.lg_types.specs.declared.records.Transaction.{Transaction}
 use Rattle.lg_types.specs.Lists.{Each}
 use Rattle.lg_types.specs.Known.{Dated, dated, transactions}
 use Rattle.lg_types.specs.Moves.{Placed, what_of, is_of, out_move, in_move, posting_moves, transaction_moves, body_transaction, entry_moves, moves, pair_moves, volumes, total}
-use Rattle.lg_types.specs.Tally.{amount_in, amount_out, if_passing, tally, is_of_transaction_to, is_of_transaction_before, is_ranked_to, is_ranked_before}
+use Rattle.lg_types.specs.Tally.{amount_in, amount_out, if_passing, is_of_transaction_to, is_of_transaction_before, is_ranked_to, is_ranked_before}
 use Rattle.lg_types.specs.Trial.{tried_moves}
 use Rattle.lg_types.proofs.Eachs.{each-map, each-append}
 use Rattle.lg_types.proofs.Limits.{total-postings}

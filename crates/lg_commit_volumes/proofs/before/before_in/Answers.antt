@@ -1,4 +1,4 @@
-use Rattle.std.proofs.Common.{◌≡◌, ◌∙◌, Some, sym, ap, ◌++◌}
+use Rattle.std.proofs.Common.{◌∙◌, sym, ap}
 use Rattle.std.specs.Option.{option_copied}
 use Rattle.lg_types.specs.declared.classes.Class.TheVariants.{Account as AccountClass}
 use Rattle.lg_types.specs.Stripes.{stripe}

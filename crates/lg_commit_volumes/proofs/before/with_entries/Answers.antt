@@ -1,5 +1,3 @@
-use Rattle.lg_types.specs.Moves.{moves}
-use Rattle.lg_commit_volumes.specs.Before.{with_moves}
 use Rattle.lg_commit_volumes.proofs.SumLemmas.{entries_next, entry_within, entries_done}
 use Rattle.lg_commit_volumes.proofs.before.with_entries.Goals as goal
 

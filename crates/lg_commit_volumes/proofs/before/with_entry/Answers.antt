@@ -1,10 +1,10 @@
-use Rattle.std.proofs.Common.{◌≡◌, ◌∙◌, Option, Some, List, sym, ap}
+use Rattle.std.proofs.Common.{◌≡◌, ◌∙◌, Some, List, sym, ap}
 use Rattle.std.specs.List.{flat_map}
 use Rattle.std.specs.Option.{option_copied}
 use Rattle.lg_types.specs.declared.records.Posting.{Posting}
 use Rattle.lg_types.specs.Moves.{body_transaction, total}
 use Rattle.lg_types.specs.Trial.{tried_moves}
-use Rattle.lg_commit_volumes.proofs.EntryLemmas.{none_added, own_within, all_within, ranked_within, own_added}
+use Rattle.lg_commit_volumes.proofs.EntryLemmas.{own_within, all_within, ranked_within, own_added}
 use Rattle.lg_commit_volumes.proofs.before.with_entry.Goals as goal
 
 pub postings_volumes-own-requires : goal.postings_volumes-own-requires

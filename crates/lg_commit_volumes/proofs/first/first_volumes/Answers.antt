@@ -1,4 +1,4 @@
-use Rattle.std.proofs.Common.{◌≡◌, ◌<◌, ◌≤◌, ◌∙◌, List, length, drop, get_or, sym, ap, subst}
+use Rattle.std.proofs.Common.{◌≤◌, ◌∙◌, List, length, subst}
 use Rattle.lg_types.specs.declared.records.Posting.{Posting}
 use Rattle.lg_book.specs.FirstVolumes.{no_volumes}
 use Rattle.lg_commit_volumes.specs.Lent.{IsLent, IsPairWithin}

@@ -1,5 +1,3 @@
-use Rattle.std.proofs.Common.{◌∙◌, sym, ap, ◌++◌, ◌∷◌, []}
-use Rattle.lg_commit_volumes.specs.Examples.{shards_to, fresh_state}
 use Rattle.lg_commit_volumes.proofs.ExampleLemmas.{shards-nil, shards-more}
 use Rattle.lg_commit_volumes.proofs.tests.sixteen_shards.Goals as goal
 
