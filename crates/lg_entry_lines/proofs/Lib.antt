@@ -1,0 +1,13 @@
+pub mod Bodies
+pub mod Entries
+pub mod Hashes
+pub mod Metadata
+pub mod Moments
+pub mod Names
+pub mod Numbers
+pub mod Objects
+pub mod Readings
+pub mod Refusals
+pub mod Strings
+pub mod Tables
+pub mod Transactions

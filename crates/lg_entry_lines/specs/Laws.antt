@@ -1,0 +1,40 @@
+-- The laws of an entry's line.
+use Rattle.std.specs.Prelude.{◌≡◌, ℕ, Bool, List, Ok, Err}
+use Rattle.lg_json.specs.Tree.{Tree}
+use Rattle.lg_types.specs.declared.records.Entry.{Entry}
+use Rattle.lg_types.specs.declared.refusals.Reason.{Reason}
+use Rattle.lg_types.specs.declared.refusals.Refusal.{Refusal}
+use Rattle.lg_types.specs.declared.refusals.Refusal.TheVariants.{Member}
+use Rattle.lg_views.specs.declared.readings.ReadEntry.{ReadEntry}
+use Rattle.lg_views.specs.Answers.{Answer}
+use Rattle.lg_views.specs.Checked.{Shows}
+use Rattle.lg_views.specs.EntryLines.{LineOf}
+use Rattle.lg_views.specs.ReplyTexts.{line_text}
+use Rattle.lg_entry_lines.specs.Records.{IsEntry}
+
+-- the reading gives this value, and nothing else
+pub record GivesOnly {A : Type 0} (reading : Answer A → Type 0) (a : A) : Type 0 where
+  pub gives : reading (Ok a)
+  pub only : (r : Answer A) → reading r → r ≡ Ok a
+
+-- an entry that was read of a line of log form 2
+abbrev pub second : Entry → ReadEntry
+second e = record { entry = e; form = 2 }
+
+-- the bytes are a JSON text within the limits, and are read as the entry, in log form 2, and as nothing else
+pub record ReadsAs (bytes : List ℕ) (e : Entry) : Type 0 where
+  pub line : Tree
+  pub shows : Shows bytes line
+  pub reads : (recompute : Bool) → GivesOnly (LineOf recompute line) (second e)
+
+abbrev pub EntryReadsBack : Type 0
+EntryReadsBack = (e : Entry) → IsEntry e → ReadsAs (line_text e) e
+
+-- a refusal of a member, for a reason
+pub record IsMemberRefusal (refusal : Refusal) : Type 0 where
+  pub path : List ℕ
+  pub reason : Reason
+  pub same : refusal ≡ Member path reason
+
+abbrev pub LinesRefuseMembers : Type 0
+LinesRefuseMembers = (recompute : Bool) (line : Tree) (refusal : Refusal) → LineOf recompute line (Err refusal) → IsMemberRefusal refusal

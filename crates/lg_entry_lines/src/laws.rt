@@ -1,0 +1,14 @@
+//! Laws of the definitions of an entry's line and of its reading.
+
+ghost use Rattle.lg_entry_lines.specs.Laws.{EntryReadsBack, LinesRefuseMembers};
+
+/// A line is refused as an entry's for one of its members alone.
+pub fn lines_refuse_members()
+    ensures { LinesRefuseMembers }
+{}
+
+/// The line of an entry is a JSON text within the limits, and is read as that entry, in log form 2, and as nothing else.
+#[tactic(auto, using(crate::proofs::Entries::entry_reads_back))]
+pub fn an_entry_reads_back()
+    ensures { EntryReadsBack }
+{}
