@@ -1,11 +1,12 @@
 -- The laws of an entry's line.
 use Rattle.std.specs.Prelude.{◌≡◌, ℕ, Bool, List, Ok, Err}
 use Rattle.lg_json.specs.Tree.{Tree}
+use Rattle.lg_types.specs.EntryTexts.{entry_text}
+use Rattle.lg_types.specs.declared.forms.EntryForm.TheVariants.{FirstLine}
 use Rattle.lg_types.specs.declared.records.Entry.{Entry}
 use Rattle.lg_types.specs.declared.refusals.Reason.{Reason}
 use Rattle.lg_types.specs.declared.refusals.Refusal.{Refusal}
 use Rattle.lg_types.specs.declared.refusals.Refusal.TheVariants.{Member}
-use Rattle.lg_views.specs.declared.readings.ReadEntry.{ReadEntry}
 use Rattle.lg_views.specs.Answers.{Answer}
 use Rattle.lg_views.specs.Checked.{Shows}
 use Rattle.lg_views.specs.EntryLines.{LineOf}
@@ -17,18 +18,19 @@ pub record GivesOnly {A : Type 0} (reading : Answer A → Type 0) (a : A) : Type
   pub gives : reading (Ok a)
   pub only : (r : Answer A) → reading r → r ≡ Ok a
 
--- an entry that was read of a line of log form 2
-abbrev pub second : Entry → ReadEntry
-second e = record { entry = e; form = 2 }
-
--- the bytes are a JSON text within the limits, and are read as the entry, in log form 2, and as nothing else
-pub record ReadsAs (bytes : List ℕ) (e : Entry) : Type 0 where
+-- the bytes are a JSON text within the limits, and are read as the entry, in the log form, and as nothing else
+pub record ReadsAs (bytes : List ℕ) (e : Entry) (form : ℕ) : Type 0 where
   pub line : Tree
   pub shows : Shows bytes line
-  pub reads : (recompute : Bool) → GivesOnly (LineOf recompute line) (second e)
+  pub reads : (recompute : Bool) → GivesOnly (LineOf recompute line) (record { entry = e; form = form })
 
+-- the line that replies and exports have
 abbrev pub EntryReadsBack : Type 0
-EntryReadsBack = (e : Entry) → IsEntry e → ReadsAs (line_text e) e
+EntryReadsBack = (e : Entry) → IsEntry e → ReadsAs (line_text e) e 2
+
+-- the line of log form 1
+abbrev pub FirstLineReadsBack : Type 0
+FirstLineReadsBack = (e : Entry) → IsEntry e → ReadsAs (entry_text e FirstLine) e 1
 
 -- a refusal of a member, for a reason
 pub record IsMemberRefusal (refusal : Refusal) : Type 0 where

@@ -1,6 +1,6 @@
 //! Laws of the definitions of an entry's line and of its reading.
 
-ghost use Rattle.lg_entry_lines.specs.Laws.{EntryReadsBack, LinesRefuseMembers};
+ghost use Rattle.lg_entry_lines.specs.Laws.{EntryReadsBack, FirstLineReadsBack, LinesRefuseMembers};
 
 /// A line is refused as an entry's for one of its members alone.
 pub fn lines_refuse_members()
@@ -11,4 +11,10 @@ pub fn lines_refuse_members()
 #[tactic(auto, using(crate::proofs::Entries::entry_reads_back))]
 pub fn an_entry_reads_back()
     ensures { EntryReadsBack }
+{}
+
+/// So is its line of log form 1, in log form 1.
+#[tactic(auto, using(crate::proofs::Entries::first_line_reads_back))]
+pub fn a_first_line_reads_back()
+    ensures { FirstLineReadsBack }
 {}
