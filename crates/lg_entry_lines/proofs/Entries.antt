@@ -1,6 +1,6 @@
 -- The line of an entry, and what it is read as.
 use Rattle.std.proofs.Common.{◌≡◌, ℕ, ◌^◌, Bool, true, false, not, ◌&&◌, List, [], ◌∷◌, ◌++◌, Option, Some, None, inr, refl, sym, ap, subst, ◌∙◌, append_assoc, arith}
-use Rattle.std.specs.Prelude.{pos, decimal, codes, IfSome}
+use Rattle.std.specs.Prelude.{Result, Ok, pos, decimal, codes, IfSome}
 use Rattle.std.specs.List.{concat}
 use Rattle.std.specs.Str.{bytes_eq}
 use Rattle.std.proofs.lemmas.Bool.{and_parts, and_from}
@@ -10,6 +10,8 @@ use Rattle.base64.specs.Engines.{standard}
 use Rattle.lg_base.specs.Texts.{quoted}
 use Rattle.lg_containers.specs.CountedGrammar.{IsKey}
 use Rattle.lg_json.specs.Grammar.{IsWhole, IsValue, Fits}
+use Rattle.lg_json.proofs.Whole.{json_value}
+use Rattle.lg_json.specs.declared.json.JsonFault.{JsonFault}
 use Rattle.lg_json.specs.Tree.{Tree, Members}
 use Rattle.lg_json.specs.Tree.Tree.{null, whole, text, members}
 use Rattle.lg_json.specs.Tree.Members.{no_member, member}
@@ -22,6 +24,7 @@ use Rattle.lg_types.specs.declared.records.KeyMark.{KeyMark}
 use Rattle.lg_views.specs.Paths.{Path, top, below}
 use Rattle.lg_views.specs.Answers.{known}
 use Rattle.lg_views.specs.Values.{under, id_of, SomeName}
+use Rattle.lg_views.specs.Checked.{Shows}
 use Rattle.lg_views.specs.EntryLines.{form_of, MarkIn, LineHash, LineIn}
 use Rattle.lg_entry_lines.specs.Laws.{GivesOnly, ReadsAs, EntryReadsBack, FirstLineReadsBack}
 use Rattle.lg_entry_lines.specs.Records.{IsHash, IsMark, IsEntry}
@@ -195,10 +198,21 @@ line_in recompute second e h =
     (only_then (line_hash_reads recompute e.mark second e h)
     (only_gives (record { entry = e; form = form_of_line second })))))))
 
+-- a JSON text within the limits has one value
+same_ok : {A E : Type 0} (x y : A) → ◌≡◌ {A = Result A E} (Ok x) (Ok y) → x ≡ y
+same_ok x y e = cc
+
+one_value : (bytes : List ℕ) (t u : Tree) → Shows bytes t → Shows bytes u → t ≡ u
+one_value bytes t u h k = same_ok {E = JsonFault} t u (sym (json_value t bytes h.0 h.1) ∙ json_value u bytes k.0 k.1)
+
+line_shows : (second : Bool) (e : Entry) → IsEntry e → Shows (text_of_line second e) (members (line_members second e))
+line_shows second e h = (([], text_of_line second e, [], tt, line_is_object second e h, tt, sym (append-nil (text_of_line second e))), line_fits second e h)
+
 line_reads : (second : Bool) (e : Entry) → IsEntry e → ReadsAs (text_of_line second e) e (form_of_line second)
 line_reads second e h = record {
   line = members (line_members second e);
-  shows = (([], text_of_line second e, [], tt, line_is_object second e h, tt, sym (append-nil (text_of_line second e))), line_fits second e h);
+  shows = line_shows second e h;
+  one = λ t shows. one_value (text_of_line second e) t (members (line_members second e)) shows (line_shows second e h);
   reads = λ recompute. only_then (only_known refl) (line_in recompute second e h);
 }
 

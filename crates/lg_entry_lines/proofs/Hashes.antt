@@ -47,9 +47,12 @@ symbols_plain (a ∷ b ∷ c ∷ rest) h =
     let hc : c < 256 = h 2 in
     (symbol (a / 4) (omega arith), (symbol (a % 4 * 16 + b / 16) (omega arith), (symbol (b % 16 * 4 + c / 64) (omega arith), (symbol (c % 64) (omega arith), symbols_plain rest (λ i. h (suc (suc (suc i))))))))
 
+pub hash_plain : (hash : List ℕ) → IsBytes hash → AllByRecursion IsPlain (encode_of standard hash)
+hash_plain hash h = all_append IsPlain (encode_symbols standard.encode_table hash) (replicate (padding_len (length hash)) 61) (symbols_plain hash h) (all_equals (padding_len (length hash)))
+
 pub hash_is_string : (hash : List ℕ) → IsBytes hash → IsString (encode_of standard hash) (hash_text hash)
 unfolding hash_text
-hash_is_string hash h = plain_is_string (encode_of standard hash) (all_append IsPlain (encode_symbols standard.encode_table hash) (replicate (padding_len (length hash)) 61) (symbols_plain hash h) (all_equals (padding_len (length hash))))
+hash_is_string hash h = plain_is_string (encode_of standard hash) (hash_plain hash h)
 
 same_ok : {A E : Type 0} (x y : A) → ◌≡◌ {A = Result A E} (Ok x) (Ok y) → x ≡ y
 same_ok x y e = cc

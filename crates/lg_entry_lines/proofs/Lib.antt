@@ -1,6 +1,10 @@
 pub mod Bodies
+pub mod Breaks
 pub mod Entries
+pub mod Exports
 pub mod Hashes
+pub mod LineBreaks
+pub mod LineReadings
 pub mod Metadata
 pub mod Moments
 pub mod Names
@@ -11,3 +15,4 @@ pub mod Refusals
 pub mod Strings
 pub mod Tables
 pub mod Transactions
+pub mod Walks

@@ -1,5 +1,5 @@
 -- The text of a moment is a JSON string of that text.
-use Rattle.std.proofs.Common.{◌≡◌, ℕ, suc, ◌≤◌, List, [], ◌∷◌, ◌++◌, refl, sym, subst, arith}
+use Rattle.std.proofs.Common.{◌≡◌, ℕ, suc, ◌≤◌, List, [], ◌∷◌, ◌++◌, refl, sym, ap, subst, arith}
 use Rattle.std.specs.Prelude.{All, ℤ, ◌≤ℤ◌, ◌<ℤ◌, false}
 use Rattle.std.specs.Ordering.{int_cmp, is_lt, MatchOrdering}
 use Rattle.std.specs.Cmp.{int_ranks}
@@ -38,8 +38,13 @@ all_plain_bytes (b ∷ bs) h =
     let high : b ≤ 90 = (h 0 0 (omega arith)).1 in
     (plain_from b (omega arith) (omega arith) (omega arith) (omega arith), all_plain_bytes bs (λ k d lt. h (suc k) d (omega arith)))
 
-pub date_is_string : (moment : ℤ) → IsInMoments moment → IsString (moment_text moment) (date_text moment)
+pub moment_plain : (moment : ℤ) → IsInMoments moment → AllByRecursion IsPlain (moment_text moment)
+moment_plain moment h = all_plain_bytes (moment_text moment) (moment_text-bytes moment h)
+
+-- the text of a date in the range
+pub date_is : (moment : ℤ) → IsInMoments moment → date_text moment ≡ (34 ∷ []) ++ (moment_text moment ++ (34 ∷ []))
 unfolding date_text
-date_is_string moment h =
-    subst (λ (m : ℤ). IsString (moment_text moment) ((34 ∷ []) ++ (moment_text m ++ (34 ∷ [])))) (sym (brought_in moment h))
-    (plain_is_string (moment_text moment) (all_plain_bytes (moment_text moment) (moment_text-bytes moment h)))
+date_is moment h = ap (λ (m : ℤ). (34 ∷ []) ++ (moment_text m ++ (34 ∷ []))) (brought_in moment h)
+
+pub date_is_string : (moment : ℤ) → IsInMoments moment → IsString (moment_text moment) (date_text moment)
+date_is_string moment h = subst (IsString (moment_text moment)) (sym (date_is moment h)) (plain_is_string (moment_text moment) (moment_plain moment h))

@@ -1,5 +1,5 @@
 -- The decimal text of a number is a JSON number of it.
-use Rattle.std.proofs.Common.{◌≡◌, ℕ, ◌+◌, ◌-◌, ◌*◌, ◌/◌, ◌%◌, ◌^◌, ◌<◌, ◌≤◌, false, List, [], ◌∷◌, ◌++◌, inl, inr, refl, sym, ap, ◌∙◌, arith}
+use Rattle.std.proofs.Common.{◌≡◌, ℕ, ◌+◌, ◌-◌, ◌*◌, ◌/◌, ◌%◌, ◌^◌, ◌<◌, ◌≤◌, false, List, [], ◌∷◌, ◌++◌, inl, inr, refl, sym, ap, subst, ◌∙◌, arith}
 use Rattle.std.specs.Prelude.{pos, decimal}
 use Rattle.std.proofs.lemmas.Bool.{cases_lt}
 use Rattle.std.proofs.lemmas.Fmt.{decimal_by_steps_wide}
@@ -42,6 +42,18 @@ more_digits n ds h w =
 
 written : (n : ℕ) → n < 2 ^ 127 → Writes n (decimal n)
 written n h = decimal_by_steps_wide Writes one_digit more_digits n (omega arith)
+
+positive_digits : (ds : List ℕ) → IsPositive ds → AreDigits ds
+positive_digits [] h = absurd h
+positive_digits (b ∷ bs) h = ((omega (arith, h.0), h.1), h.2)
+
+pub decimal_digits : (n : ℕ) → n < 2 ^ 127 → AreDigits (decimal n)
+decimal_digits n h =
+    let w : Writes n (decimal n) = written n h in
+    elim (cases_lt 0 n) [
+      | inl k ↦ positive_digits (decimal n) (w.positive k)
+      | inr k ↦ subst AreDigits (sym (w.zero (omega arith))) ((omega arith, omega arith), tt)
+    ]
 
 is_int : (n : ℕ) (ds : List ℕ) → Writes n ds → IsInt ds
 is_int n ds w = elim (cases_lt 0 n) [ inl k ↦ inr (w.positive k) | inr k ↦ inl (w.zero (omega arith)) ]

@@ -22,15 +22,15 @@ is_plain_from : (b : ℕ) → 32 ≤ b → b ≢ 34 → b ≢ 92 → is_plain b 
 is_plain_from b low no_quote no_backslash = rw (ne_eqb b 34 no_quote, ne_eqb b 92 no_backslash, le-ltb b 32 low) refl
 
 -- a byte that stands as it is is none of the three kinds
-record StandsAlone (b : ℕ) : Type 0 where
-  low : 32 ≤ b
-  no_quote : b ≢ 34
-  no_backslash : b ≢ 92
+pub record StandsAlone (b : ℕ) : Type 0 where
+  pub low : 32 ≤ b
+  pub no_quote : b ≢ 34
+  pub no_backslash : b ≢ 92
 
 no_mark : (b n : ℕ) → not (b == n) ≡ true → b ≢ n
 no_mark b n h = eqb-false b n (not-true (b == n) h)
 
-plain_parts : (b : ℕ) → is_plain b ≡ true → StandsAlone b
+pub plain_parts : (b : ℕ) → is_plain b ≡ true → StandsAlone b
 plain_parts b h =
     let p = and_parts (not (b == 34) && not (b == 92)) (not (nat_lt b 32)) h in
     let q = and_parts (not (b == 34)) (not (b == 92)) p.0 in

@@ -1,6 +1,6 @@
 -- Records whose parts are as their types allow: names by their grammars, texts in UTF-8, dates in the range of moments,
 -- amounts within the limit, and hashes of 32 bytes.
-use Rattle.std.specs.Prelude.{ℕ, ◌≡◌, ◌^◌, ◌<◌, List, length, IfSome, IsUtf8}
+use Rattle.std.specs.Prelude.{ℕ, ◌≡◌, ◌^◌, ◌<◌, List, length, Option, IfSome, IsUtf8}
 use Rattle.std.specs.List.{AllByRecursion}
 use Rattle.base64.specs.GeneralPurpose.{IsBytes}
 use Rattle.lg_containers.specs.AddressGrammar.{IsAddress}
@@ -48,12 +48,16 @@ pub record IsAccountPair (pair : List ℕ × NameTable (List ℕ)) : Type 0 wher
 abbrev pub IsAccountMeta : NameTable (NameTable (List ℕ)) → Type 0
 IsAccountMeta m = AllByRecursion IsAccountPair (pairs_of m)
 
+-- a reference, where there is one
+abbrev pub IsReferenceOf : Option (List ℕ) → Type 0
+IsReferenceOf reference = IfSome reference IsReference
+
 pub record IsTransaction (t : Transaction) : Type 0 where
   pub id : IsId t.id
   pub some : 0 < length t.postings
   pub postings : AllByRecursion IsPosting t.postings
   pub metadata : IsMeta t.metadata
-  pub reference : IfSome t.reference IsReference
+  pub reference : IsReferenceOf t.reference
   pub timestamp : IsInMoments t.timestamp
 
 abbrev pub IsTarget : Target → Type 0
@@ -70,9 +74,25 @@ pub record IsMark (mark : KeyMark) : Type 0 where
   pub key : IsKey mark.key
   pub input_hash : IsHash mark.input_hash
 
+-- a mark, where there is one
+abbrev pub IsMarkOf : Option KeyMark → Type 0
+IsMarkOf mark = IfSome mark IsMark
+
 pub record IsEntry (e : Entry) : Type 0 where
   pub body : IsBody e.body
   pub date : IsInMoments e.date
-  pub mark : IfSome e.mark IsMark
+  pub mark : IsMarkOf e.mark
   pub id : IsId e.id
   pub hash : IsHash e.hash
+
+-- the dates of an entry's transaction are moments
+abbrev pub BodyHasMoments : EntryBody → Type 0
+BodyHasMoments (NewTransaction transaction accounts) = IsInMoments transaction.timestamp
+BodyHasMoments (SetMetadata target metadata) = Unit {0}
+BodyHasMoments (Reverted reverted transaction) = IsInMoments transaction.timestamp
+BodyHasMoments (DeleteMetadata target name) = Unit {0}
+
+-- the dates of an entry are moments
+pub record HasMoments (e : Entry) : Type 0 where
+  pub date : IsInMoments e.date
+  pub body : BodyHasMoments e.body

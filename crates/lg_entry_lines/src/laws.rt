@@ -1,13 +1,13 @@
 //! Laws of the definitions of an entry's line and of its reading.
 
-ghost use Rattle.lg_entry_lines.specs.Laws.{EntryReadsBack, FirstLineReadsBack, LinesRefuseMembers};
+ghost use Rattle.lg_entry_lines.specs.Laws.{EntryReadsBack, FirstLineReadsBack, ExportReadsBack, LinesRefuseMembers};
 
 /// A line is refused as an entry's for one of its members alone.
 pub fn lines_refuse_members()
     ensures { LinesRefuseMembers }
 {}
 
-/// The line of an entry is a JSON text within the limits, and is read as that entry, in log form 2, and as nothing else.
+/// The line of an entry is a JSON text within the limits, of one value, which is read as that entry, in log form 2, and as nothing else.
 #[tactic(auto, using(crate::proofs::Entries::entry_reads_back))]
 pub fn an_entry_reads_back()
     ensures { EntryReadsBack }
@@ -17,4 +17,9 @@ pub fn an_entry_reads_back()
 #[tactic(auto, using(crate::proofs::Entries::first_line_reads_back))]
 pub fn a_first_line_reads_back()
     ensures { FirstLineReadsBack }
+{}
+
+/// The bytes of an export of an importable log come, as an import's, to that log and to nothing else.
+pub fn an_export_reads_back()
+    ensures { ExportReadsBack }
 {}

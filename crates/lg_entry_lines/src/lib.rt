@@ -1,4 +1,12 @@
-//! Laws of the lines of entries. Each function's contract is a law; there is nothing to run.
+//! The bytes of a line of a log, read as an entry; and the laws of the lines of entries.
 #![tactic(auto)]
 
 pub mod laws;
+mod lines;
+pub mod parts;
+
+pub use lg_views::ReadEntry;
+pub use lines::{LineFault, entry_of_line};
+
+#[cfg(test)]
+mod tests;

@@ -1,0 +1,7 @@
+use Rattle.std.proofs.Common.{drop}
+use Rattle.lg_entry_lines.specs.Records.{IsAccountPair}
+use Rattle.lg_entry_lines.proofs.Walks.{GoesOn}
+use Rattle.lg_entry_lines.proofs.parts.account_pairs_are.Given as goal
+
+abbrev pub invariant-loop-pair : goal.invariant-loop-pair
+invariant-loop-pair l = GoesOn IsAccountPair (drop l.pair-index l.pairs) l.pairs
