@@ -10,6 +10,7 @@ pub mod Moments
 pub mod Names
 pub mod Numbers
 pub mod Objects
+pub mod OneAnswer
 pub mod Readings
 pub mod Refusals
 pub mod Strings

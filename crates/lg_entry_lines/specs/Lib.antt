@@ -1,3 +1,4 @@
+pub mod AnswerLaws
 pub mod Laws
 pub mod Lines
 pub mod Records

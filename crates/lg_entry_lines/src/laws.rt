@@ -1,5 +1,6 @@
 //! Laws of the definitions of an entry's line and of its reading.
 
+ghost use Rattle.lg_entry_lines.specs.AnswerLaws.{WritesHaveOneAnswer, LedgersHaveOneAnswer, ElementsHaveOneAnswer, LinesHaveOneAnswer};
 ghost use Rattle.lg_entry_lines.specs.Laws.{EntryReadsBack, FirstLineReadsBack, ExportReadsBack, LinesRefuseMembers};
 
 /// A line is refused as an entry's for one of its members alone.
@@ -22,4 +23,13 @@ pub fn a_first_line_reads_back()
 /// The bytes of an export of an importable log come, as an import's, to that log and to nothing else.
 pub fn an_export_reads_back()
     ensures { ExportReadsBack }
+{}
+
+/// What the body of a write, of a ledger or of a list of writes, and a line of a log, are read as is one answer.
+#[tactic(auto, using(crate::proofs::OneAnswer::one_write, crate::proofs::OneAnswer::one_ledger, crate::proofs::OneAnswer::one_list, crate::proofs::OneAnswer::one_line))]
+pub fn readings_have_one_answer()
+    ensures writes { WritesHaveOneAnswer }
+    ensures ledgers { LedgersHaveOneAnswer }
+    ensures elements { ElementsHaveOneAnswer }
+    ensures lines { LinesHaveOneAnswer }
 {}

@@ -9,4 +9,6 @@ pub use lg_views::ReadEntry;
 pub use lines::{LineFault, entry_of_line};
 
 #[cfg(test)]
+mod body_tests;
+#[cfg(test)]
 mod tests;
