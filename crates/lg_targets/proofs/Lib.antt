@@ -1,0 +1,4 @@
+pub mod Names
+pub mod Numerals
+pub mod Pieces
+pub mod RouteLists
