@@ -1,7 +1,8 @@
 -- What the parameters of a query are read as. One that can't be read is refused by its name.
-use Rattle.std.specs.Prelude.{◌≡◌, ◌⊎◌, ℕ, ◌+◌, ◌≤◌, min, ℤ, Bool, true, false, ◌&&◌, ◌||◌, nat_le, if◌then◌else◌, List, [], ◌∷◌, map, Option, Some, None, is_some, Ok, Err, codes, decimal}
+use Rattle.std.specs.Prelude.{◌≡◌, ◌⊎◌, ℕ, ◌+◌, ◌<◌, ◌≤◌, min, ℤ, Bool, true, false, ◌&&◌, ◌||◌, nat_le, if◌then◌else◌, List, [], ◌∷◌, map, length, slice_index_or, Option, Some, None, is_some, Ok, Err, codes}
 use Rattle.std.specs.List.{list_any, list_all}
-use Rattle.std.specs.Str.{bytes_eq}
+use Rattle.std.specs.Str.{bytes_eq, all_ascii_digits}
+use Rattle.std.specs.Str.Parse.{digits_value}
 use Rattle.lg_time.specs.Moment.{IsMoment}
 use Rattle.lg_types.specs.declared.queries.Expand.{Expand}
 use Rattle.lg_types.specs.declared.refusals.Refusal.TheVariants.{Parameter as ParameterRefusal}
@@ -43,11 +44,17 @@ truth_parameter name ps = truth_in name (first_value name ps)
 abbrev pub unless_true : List ℕ → Bool → Answer (Unit {0})
 unless_true name b = if b then bad_parameter name else Ok tt
 
--- ---- whole numbers: decimal, without leading zeros
+-- ---- whole numbers: decimal, without leading zeros, of any length
+
+pub record IsNumberText (t : List ℕ) (n : ℕ) : Type 0 where
+  pub some : 0 < length t
+  pub digits : all_ascii_digits t ≡ true
+  pub no_leading_zero : slice_index_or t 0 0 ≡ 48 → length t ≡ 1
+  pub value : n ≡ digits_value 10 t
 
 abbrev pub NumberIn : List ℕ → (ℕ → Type 0) → ℕ → Option (List ℕ) → Answer ℕ → Type 0
 NumberIn name Fits absent None r = r ≡ Ok absent
-NumberIn name Fits absent (Some t) r = ((n : ℕ) × (t ≡ decimal n) × Fits n × (r ≡ Ok n)) ⊎ (((n : ℕ) → t ≡ decimal n → ¬ (Fits n)) × (r ≡ bad_parameter name))
+NumberIn name Fits absent (Some t) r = ((n : ℕ) × IsNumberText t n × Fits n × (r ≡ Ok n)) ⊎ (((n : ℕ) → IsNumberText t n → ¬ (Fits n)) × (r ≡ bad_parameter name))
 
 -- from 1; a larger number counts as 100; 15 where it is absent
 abbrev pub PageSize : List Parameter → Answer ℕ → Type 0
