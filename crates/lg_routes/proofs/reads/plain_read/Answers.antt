@@ -1,0 +1,12 @@
+use Rattle.std.proofs.Common.{refl}
+use Rattle.lg_codec.proofs.Readings.{onward, halted}
+use Rattle.lg_routes.proofs.reads.plain_read.Goals as goal
+
+pub returns-in_err-ledger : goal.returns-in_err-ledger
+returns-in_err-ledger c = halted _ c.from_residual.ensures.1 c.in_err-ledger.ensures
+
+pub returns-in_err-refuse_order : goal.returns-in_err-refuse_order
+returns-in_err-refuse_order c = onward c.in_ok-ledger.ensures (halted _ c.from_residual-in_err-refuse_order.ensures.1 c.in_err-refuse_order.ensures)
+
+pub returns : goal.returns
+returns c = onward c.in_ok-ledger.ensures (onward c.in_ok-refuse_order.ensures (record { answers = refl }))

@@ -1,0 +1,22 @@
+//! Requests in: the call that a method, a target, a key and a body ask for.
+#![tactic(auto)]
+
+mod body;
+mod calls;
+mod kinds;
+mod lists;
+mod names;
+mod parameter_values;
+mod parameter_words;
+mod reads;
+mod refusals;
+mod writes;
+
+pub use body::{BodyKind, RequestBody};
+pub use calls::call_of_request;
+pub use kinds::body_kind;
+pub use lg_base::NoMemory;
+pub use lists::ListReader;
+
+#[cfg(test)]
+mod tests;
