@@ -5,3 +5,5 @@ pub mod SideLemmas
 pub mod EntryLemmas
 pub mod AroundLemmas
 pub mod ExampleLemmas
+pub mod LawLemmas
+pub mod NumberLemmas

@@ -13,7 +13,7 @@ pub each_of_all : {X : Type 0} (P : X → Type 0) (xs : List X) → All P xs →
 each_of_all P [] h = tt
 each_of_all P (x ∷ xs) h = (h 0 x (omega arith), each_of_all P xs (λ k d less. h (suc k) d (omega (arith, less))))
 
-at_place : {X : Type 0} (P : X → Type 0) (xs : List X) (i : ℕ) (d : X) → Each P xs → i < length xs → P (get_or xs i d)
+pub at_place : {X : Type 0} (P : X → Type 0) (xs : List X) (i : ℕ) (d : X) → Each P xs → i < length xs → P (get_or xs i d)
 at_place P [] i d h less = absurd (omega arith)
 at_place P (x ∷ xs) zero d h less = h.0
 at_place P (x ∷ xs) (suc i) d h less = at_place P xs i d h.1 (omega (arith, less))

@@ -2,3 +2,4 @@ pub mod Lent
 pub mod Before
 pub mod Maps
 pub mod Examples
+pub mod Laws

@@ -3,6 +3,7 @@
 
 mod before;
 mod first;
+pub mod laws;
 mod maps;
 mod pairs;
 mod sums;
