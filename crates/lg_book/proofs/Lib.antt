@@ -5,10 +5,10 @@ mod FoundRecords
 mod BookReads
 mod Copies
 mod BookSteps
-mod EntryIds
+pub mod EntryIds
 mod ExampleSteps
 mod ForgetSteps
 mod IndexSteps
 mod RecordSteps
-mod Sound
+pub mod Sound
 mod Views

@@ -17,4 +17,5 @@ mod volumes;
 pub use book::Book;
 pub use lg_meta::MetaHistory;
 pub use lg_views::NoMemory;
+pub use replies::reply_of;
 pub use volumes::FirstVolumes;

@@ -14,8 +14,8 @@ use lg_types::{Entry, EntryBody, NoMemory, Transaction};
 use lg_views::{Content, Reply, TransactionView};
 use std::alloc::Global;
 
-/// The first reply of the entry, with the volumes right after it.
-pub(crate) fn reply_of(
+/// The first reply of an entry, with the volumes of its transaction right after it.
+pub fn reply_of(
     alloc: Global,
     entry: &Entry,
     volumes: &FirstVolumes,
