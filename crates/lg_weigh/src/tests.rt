@@ -1,6 +1,10 @@
-//! The stripes of calls in the ledger `default`.
+//! The stripes of calls in the ledger `default`, and what shards without events say of them.
 
-use crate::{StripeSet, stripes_of};
+ghost use Rattle.std.specs.Prelude.{◌≡◌, ℕ, Some, length, slice_get};
+ghost use Rattle.lg_shard.specs.State.{StripeState};
+
+use crate::{StripeSet, Weighed, stripes_of, weigh};
+use lg_shard::{Shard, Shards};
 use lg_types::{
     AccountMeta, Address, Amount, Asset, Call, Expand, Filter, Key, LedgerName, Meta, Posting,
     Postings, Query, Read, Reference, Refusal, Span, Target, Transaction, Write,
@@ -203,5 +207,174 @@ fn a_list_needs_all_stripes(rt: HostRuntime) -> Result<(), Fail> {
 fn what_is_unreadable_needs_nothing(rt: HostRuntime) -> Result<(), Fail> {
     let call = Call::Unreadable(Refusal::NoRoute);
     assert!(rt; is_just(stripes_of(&call, None), &[]));
+    Ok(())
+}
+
+/// The shards of all stripes, each at the place of its stripe.
+#[derive(Drop)]
+struct Lender {
+    shards: Vec<Shard>,
+    ghost count: { length shards.items ≡ 16 },
+    ghost placed: { (k : ℕ) (state : StripeState) → slice_get shards.items k ≡ Some state → state.stripe ≡ k },
+}
+
+impl Shards for Lender {
+    ghost use Rattle.std.specs.Prelude.{slice_get};
+
+    ghost lent = { λ x k. slice_get x.shards.items k };
+
+    fn shard(&self, stripe: u8) -> Option<&Shard> {
+        self.shards.get(stripe as usize)
+    }
+}
+
+fn empty_shards(alloc: Global) -> Result<Lender, Fail> {
+    let mut shards = Vec::new(alloc);
+    for stripe in 0..16u8 {
+        shards.push(Shard::new(alloc, stripe))?;
+    }
+    Ok(Lender { shards })
+}
+
+/// What shards without events say of the call.
+fn weighed(alloc: Global, call: &Call, known: Option<&Transaction>) -> Result<Weighed, Fail> {
+    let shards = empty_shards(alloc)?;
+    Ok(weigh(alloc, call, known, &shards)?)
+}
+
+fn told(alloc: Global, trial: &Option<Refusal>) -> Result<String, Fail> {
+    match trial {
+        None => Ok(format!(in alloc; "accepted")?),
+        Some(
+            Refusal::Lack {
+                posting,
+                balance,
+                amount,
+                ..
+            },
+        ) => Ok(format!(in alloc; "posting {posting} needs {amount} and has {balance}")?),
+        Some(Refusal::Below { balance, .. }) => Ok(format!(in alloc; "{balance} after all")?),
+        Some(Refusal::Limit { posting }) => Ok(format!(in alloc; "posting {posting} is over")?),
+        Some(_) => Ok(format!(in alloc; "another refusal")?),
+    }
+}
+
+/// The trial of a creation with these postings.
+fn tried(alloc: Global, postings: Postings, force: bool) -> Result<String, Fail> {
+    let write = Write::Create {
+        postings,
+        reference: None,
+        timestamp: None,
+        metadata: Meta::new(alloc),
+        accounts: AccountMeta::new(alloc),
+        force,
+    };
+    told(
+        alloc,
+        &weighed(alloc, &write_call(alloc, None, write)?, None)?.trial,
+    )
+}
+
+#[test]
+fn an_account_without_moves_lacks_funds(rt: HostRuntime) -> Result<(), Fail> {
+    let alloc = rt.alloc();
+    let lacking = tried(alloc, one(alloc, b"users:9", b"a", 5)?, false)?;
+    assert_eq!(rt; lacking.as_str(), "posting 0 needs 5 and has 0");
+    let forced = tried(alloc, one(alloc, b"users:9", b"a", 5)?, true)?;
+    assert_eq!(rt; forced.as_str(), "accepted");
+    Ok(())
+}
+
+#[test]
+fn the_account_that_lacks_funds_is_the_source(rt: HostRuntime) -> Result<(), Fail> {
+    let alloc = rt.alloc();
+    let write = creation(alloc, one(alloc, b"users:9", b"a", 5)?, None);
+    let weighed = weighed(alloc, &write_call(alloc, None, write)?, None)?;
+    match &weighed.trial {
+        Some(Refusal::Lack { account, asset, .. }) => {
+            assert!(rt; account.bytes() == b"users:9".as_slice());
+            assert!(rt; asset.bytes() == b"USD/2".as_slice());
+        }
+        _ => return Err(Fail::from("another trial")),
+    }
+    Ok(())
+}
+
+#[test]
+fn a_posting_sees_the_ones_before_it(rt: HostRuntime) -> Result<(), Fail> {
+    let alloc = rt.alloc();
+    let accepted = tried(alloc, two_postings(alloc)?, false)?;
+    assert_eq!(rt; accepted.as_str(), "accepted");
+    let mut three = two_postings(alloc)?;
+    three.push(posting(alloc, b"a", b"c", 1)?)?;
+    let lacking = tried(alloc, three, false)?;
+    assert_eq!(rt; lacking.as_str(), "posting 2 needs 1 and has 0");
+    Ok(())
+}
+
+#[test]
+fn the_limit_holds_with_force(rt: HostRuntime) -> Result<(), Fail> {
+    let alloc = rt.alloc();
+    let most = 170141183460469231731687303715884105727;
+    let mut postings = one(alloc, b"world", b"a", most)?;
+    postings.push(posting(alloc, b"world", b"a", 1)?)?;
+    let over = tried(alloc, postings, true)?;
+    assert_eq!(rt; over.as_str(), "posting 1 is over");
+    Ok(())
+}
+
+/// The trial of the revert of a transaction that moved 10 from `world` to `a`.
+fn tried_revert(alloc: Global, force: bool) -> Result<String, Fail> {
+    let original = transaction(alloc, one(alloc, b"world", b"a", 10)?);
+    let write = Write::Revert {
+        id: 1,
+        force,
+        at_effective_date: false,
+    };
+    let call = write_call(alloc, None, write)?;
+    told(alloc, &weighed(alloc, &call, Some(&original))?.trial)
+}
+
+#[test]
+fn a_revert_is_tried_against_its_own_postings(rt: HostRuntime) -> Result<(), Fail> {
+    let trial = tried_revert(rt.alloc(), false)?;
+    assert_eq!(rt; trial.as_str(), "-10 after all");
+    Ok(())
+}
+
+#[test]
+fn a_revert_with_force_may_go_below_zero(rt: HostRuntime) -> Result<(), Fail> {
+    let trial = tried_revert(rt.alloc(), true)?;
+    assert_eq!(rt; trial.as_str(), "accepted");
+    Ok(())
+}
+
+/// A creation with the key `k2`, of 100 from `world` to `users:1`.
+fn keyed_creation(alloc: Global) -> Result<Call, Fail> {
+    let key = Key::read(alloc, b"k2")?;
+    let postings = one(alloc, b"world", b"users:1", 100)?;
+    write_call(alloc, Some(key), creation(alloc, postings, None))
+}
+
+#[test]
+fn a_key_comes_with_the_hash_of_what_is_asked(rt: HostRuntime) -> Result<(), Fail> {
+    let alloc = rt.alloc();
+    let weighed = weighed(alloc, &keyed_creation(alloc)?, None)?;
+    assert!(rt; weighed.kept.is_none());
+    assert_eq!(rt;
+        weighed.input_hash,
+        Some([
+            6, 105, 90, 33, 248, 169, 214, 249, 229, 251, 251, 177, 193, 104, 16, 77, 74, 143, 21,
+            149, 65, 156, 152, 75, 88, 93, 168, 172, 68, 185, 181, 242
+        ])
+    );
+    Ok(())
+}
+
+#[test]
+fn a_reference_that_no_transaction_has_is_free(rt: HostRuntime) -> Result<(), Fail> {
+    let alloc = rt.alloc();
+    let weighed = weighed(alloc, &named_creation(alloc)?, None)?;
+    assert!(rt; weighed.used.is_none());
     Ok(())
 }
