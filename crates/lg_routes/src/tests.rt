@@ -6,7 +6,6 @@ use lg_json::read;
 use lg_targets::Parameter;
 use lg_types::{Call, Filter, ListKind, Query, Read, Reason, Refusal, Write};
 use std::alloc::Global;
-use std::test::Fail;
 
 /// A reader for which memory is always wanting.
 struct Forgetful;
@@ -37,148 +36,175 @@ fn json(alloc: Global, text: &[u8]) -> RequestBody {
     }
 }
 
-/// Whether the refusal is that of what stands at the path, for the reason.
-fn is_member(refusal: &Refusal, at: &[u8], why: Reason) -> bool {
+fn is_no_route(alloc: Global, method: &[u8], target: &[u8]) -> bool {
+    matches!(
+        call(alloc, method, target, RequestBody::None),
+        Ok(Call::Unreadable(Refusal::NoRoute))
+    )
+}
+
+fn is_no_method(alloc: Global, method: &[u8], target: &[u8]) -> bool {
+    matches!(
+        call(alloc, method, target, RequestBody::None),
+        Ok(Call::Unreadable(Refusal::Method))
+    )
+}
+
+#[test]
+fn routes_and_methods(rt: HostRuntime) {
+    let alloc = rt.alloc();
+    assert!(rt; is_no_route(alloc, b"GET", b"/v3"));
+    assert!(rt; is_no_route(alloc, b"GET", b"/v2/"));
+    assert!(rt; is_no_method(alloc, b"PUT", b"/v2/default"));
+}
+
+/// Whether the refusal is that of what stands at the path, for its form.
+fn is_form_at(refusal: &Refusal, at: &[u8]) -> bool {
     match refusal {
-        Refusal::Member { path, reason } => path.bytes() == at && *reason == why,
+        Refusal::Member { path, reason } => path.bytes() == at && *reason == Reason::Form,
         _ => false,
     }
 }
 
-/// Whether a name or the body is refused as one of another form.
-fn is_form(call: &Call, at: &[u8]) -> bool {
-    match call {
-        Call::Unreadable(refusal) => is_member(refusal, at, Reason::Form),
-        _ => false,
-    }
-}
-
-fn is_parameter(call: &Call, parameter: &[u8]) -> bool {
-    match call {
-        Call::Unreadable(Refusal::Parameter { name }) => name.bytes() == parameter,
+/// Whether a name of the path is refused.
+fn is_form(alloc: Global, target: &[u8], at: &[u8]) -> bool {
+    match call(alloc, b"GET", target, RequestBody::None) {
+        Ok(Call::Unreadable(refusal)) => is_form_at(&refusal, at),
         _ => false,
     }
 }
 
 #[test]
-fn routes_and_methods(rt: HostRuntime) -> Result<(), Fail> {
+fn names_of_paths(rt: HostRuntime) {
     let alloc = rt.alloc();
-    let nowhere = call(alloc, b"GET", b"/v3", RequestBody::None)?;
-    assert!(rt; matches!(&nowhere, Call::Unreadable(Refusal::NoRoute)));
-    let empty = call(alloc, b"GET", b"/v2/", RequestBody::None)?;
-    assert!(rt; matches!(&empty, Call::Unreadable(Refusal::NoRoute)));
-    let wrong = call(alloc, b"PUT", b"/v2/default", RequestBody::None)?;
-    assert!(rt; matches!(&wrong, Call::Unreadable(Refusal::Method)));
-    Ok(())
+    assert!(rt; is_form(alloc, b"/v2/_x/accounts/a::b", b"ledger"));
+    assert!(rt; is_form(alloc, b"/v2/default/accounts/a:", b"address"));
+    assert!(rt; is_form(alloc, b"/v2/default/transactions/01", b"id"));
+    assert!(rt; is_form(alloc, b"/v2/de%2Ffault/stats", b"ledger"));
 }
 
-fn is_stats(call: &Call) -> bool {
-    match call {
-        Call::Read {
-            ledger,
-            read: Read::Stats,
-        } => ledger.bytes() == b"default".as_slice(),
+fn is_parameter(alloc: Global, method: &[u8], target: &[u8], parameter: &[u8]) -> bool {
+    match call(alloc, method, target, RequestBody::None) {
+        Ok(Call::Unreadable(Refusal::Parameter { name })) => name.bytes() == parameter,
         _ => false,
     }
 }
 
 #[test]
-fn escapes_in_paths(rt: HostRuntime) -> Result<(), Fail> {
+fn parameters_of_queries(rt: HostRuntime) {
     let alloc = rt.alloc();
-    let stats = call(alloc, b"GET", b"/v2/default/%73tats?x=1", RequestBody::None)?;
-    assert!(rt; is_stats(&stats));
-    let slash = call(alloc, b"GET", b"/v2/de%2Ffault/stats", RequestBody::None)?;
-    assert!(rt; is_form(&slash, b"ledger"));
-    Ok(())
+    let revert = b"/v2/default/transactions/1/revert?force=no&force=true&order=x";
+    assert!(rt; is_parameter(alloc, b"POST", revert, b"force"));
+    let account = b"/v2/default/accounts/a?pit=x&expand=volumes";
+    assert!(rt; is_parameter(alloc, b"GET", account, b"pit"));
+    let stats = b"/v2/default/stats?force=maybe&sort=";
+    assert!(rt; is_parameter(alloc, b"GET", stats, b"sort"));
 }
 
-#[test]
-fn names_of_paths(rt: HostRuntime) -> Result<(), Fail> {
-    let alloc = rt.alloc();
-    let ledger = call(alloc, b"GET", b"/v2/_x/accounts/a::b", RequestBody::None)?;
-    assert!(rt; is_form(&ledger, b"ledger"));
-    let address = call(alloc, b"GET", b"/v2/default/accounts/a:", RequestBody::None)?;
-    assert!(rt; is_form(&address, b"address"));
-    let id = call(
-        alloc,
-        b"GET",
-        b"/v2/default/transactions/01",
-        RequestBody::None,
-    )?;
-    assert!(rt; is_form(&id, b"id"));
-    Ok(())
-}
-
-#[test]
-fn parameters_of_queries(rt: HostRuntime) -> Result<(), Fail> {
-    let alloc = rt.alloc();
-    let target = b"/v2/default/transactions/1/revert?force=no&force=true&order=x";
-    let first = call(alloc, b"POST", target, RequestBody::None)?;
-    assert!(rt; is_parameter(&first, b"force"));
-    let target = b"/v2/default/accounts/a?pit=x&expand=volumes";
-    let moment = call(alloc, b"GET", target, RequestBody::None)?;
-    assert!(rt; is_parameter(&moment, b"pit"));
-    let target = b"/v2/default/stats?force=maybe&sort=";
-    let sorted = call(alloc, b"GET", target, RequestBody::None)?;
-    assert!(rt; is_parameter(&sorted, b"sort"));
-    Ok(())
-}
-
-/// Whether the call reverts transaction 7 by force, and not at its effective date, with a key.
-fn is_forced_revert(call: &Call) -> bool {
-    match call {
-        Call::Write {
-            key: Some(key),
-            write: Write::Revert {
-                id,
-                force,
-                at_effective_date,
+/// Whether the statistics of the ledger `default` are read.
+fn is_stats(alloc: Global, target: &[u8], body: RequestBody) -> bool {
+    match call(alloc, b"GET", target, body) {
+        Ok(
+            Call::Read {
+                ledger,
+                read: Read::Stats,
             },
-            ..
-        } => key.bytes() == b"k".as_slice() && *id == 7 && *force && !*at_effective_date,
+        ) => ledger.bytes() == b"default".as_slice(),
         _ => false,
     }
 }
 
 #[test]
-fn bodies_of_writes(rt: HostRuntime) -> Result<(), Fail> {
+fn escapes_and_ignored_bodies(rt: HostRuntime) {
+    let alloc = rt.alloc();
+    assert!(rt; is_stats(alloc, b"/v2/default/%73tats?x=1", RequestBody::None));
+    assert!(rt; is_stats(alloc, b"/v2/default/stats", json(alloc, b"{")));
+}
+
+/// Whether the write reverts transaction 7 by force, and not at its effective date.
+fn is_forced(write: &Write) -> bool {
+    match write {
+        Write::Revert {
+            id,
+            force,
+            at_effective_date,
+        } => *id == 7 && *force && !*at_effective_date,
+        _ => false,
+    }
+}
+
+/// Whether the call has the key `k`, and is such a revert.
+fn is_forced_revert(alloc: Global, target: &[u8]) -> bool {
+    match call(alloc, b"POST", target, RequestBody::None) {
+        Ok(
+            Call::Write {
+                key: Some(key),
+                write,
+                ..
+            },
+        ) => key.bytes() == b"k".as_slice() && is_forced(&write),
+        _ => false,
+    }
+}
+
+#[test]
+fn first_of_a_repeated_parameter(rt: HostRuntime) {
     let alloc = rt.alloc();
     let target = b"/v2/default/transactions/7/revert?force=TRUE&force=false";
-    let revert = call(alloc, b"POST", target, RequestBody::None)?;
-    assert!(rt; is_forced_revert(&revert));
-    let target = b"/v2/default/transactions";
-    let none = call(alloc, b"POST", target, json(alloc, b"{\"postings\":[]}"))?;
-    assert!(rt; matches!(&none, Call::Unreadable(Refusal::NoPostings)));
-    let script = call(
-        alloc,
-        b"POST",
-        target,
-        json(alloc, b"{\"script\":{\"plain\":\"send\"}}"),
-    )?;
-    assert!(rt; matches!(&script, Call::Unreadable(Refusal::Script)));
-    Ok(())
+    assert!(rt; is_forced_revert(alloc, target));
 }
 
-fn faulty(alloc: Global) -> RequestBody {
-    json(alloc, b"{")
+fn is_without_postings(alloc: Global, body: &[u8]) -> bool {
+    matches!(
+        call(
+            alloc,
+            b"POST",
+            b"/v2/default/transactions",
+            json(alloc, body)
+        ),
+        Ok(Call::Unreadable(Refusal::NoPostings))
+    )
+}
+
+fn is_script(alloc: Global, body: &[u8]) -> bool {
+    matches!(
+        call(
+            alloc,
+            b"POST",
+            b"/v2/default/transactions",
+            json(alloc, body)
+        ),
+        Ok(Call::Unreadable(Refusal::Script))
+    )
+}
+
+fn is_faulty(alloc: Global, body: &[u8]) -> bool {
+    matches!(
+        call(alloc, b"POST", b"/v2/default/_bulk", json(alloc, body)),
+        Ok(Call::Unreadable(Refusal::BodyJson { .. }))
+    )
 }
 
 #[test]
-fn bodies_that_are_no_json(rt: HostRuntime) -> Result<(), Fail> {
+fn refused_bodies(rt: HostRuntime) {
     let alloc = rt.alloc();
-    let ignored = call(alloc, b"GET", b"/v2/default/stats", faulty(alloc))?;
-    assert!(rt; is_stats(&ignored));
-    let looked = call(alloc, b"POST", b"/v2/default/_bulk", faulty(alloc))?;
-    assert!(rt; matches!(&looked, Call::Unreadable(Refusal::BodyJson { .. })));
-    Ok(())
+    assert!(rt; is_without_postings(alloc, b"{\"postings\":[]}"));
+    assert!(rt; is_script(alloc, b"{\"script\":{\"plain\":\"send\"}}"));
+    assert!(rt; is_faulty(alloc, b"{"));
+}
+
+fn has_kind(alloc: Global, method: &[u8], target: &[u8], kind: BodyKind) -> bool {
+    match body_kind(alloc, method, target) {
+        Ok(found) => found == kind,
+        Err(_) => false,
+    }
 }
 
 #[test]
-fn kinds_of_bodies(rt: HostRuntime) -> Result<(), Fail> {
+fn kinds_of_bodies(rt: HostRuntime) {
     let alloc = rt.alloc();
     let target = b"/v2/default/logs/import?hashes=recompute&hashes=check";
-    assert!(rt; body_kind(alloc, b"POST", target)? == BodyKind::Lines { recompute: true });
-    assert!(rt; body_kind(alloc, b"GET", target)? == BodyKind::Ignored);
-    assert!(rt; body_kind(alloc, b"POST", b"/v2/default/_bulk")? == BodyKind::Json);
-    Ok(())
+    assert!(rt; has_kind(alloc, b"POST", target, BodyKind::Lines { recompute: true }));
+    assert!(rt; has_kind(alloc, b"GET", target, BodyKind::Ignored));
+    assert!(rt; has_kind(alloc, b"POST", b"/v2/default/_bulk", BodyKind::Json));
 }
