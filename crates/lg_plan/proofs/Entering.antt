@@ -1,5 +1,5 @@
 -- An entry that may be the next of its ledger's log may be prepared on each shard.
-use Rattle.std.proofs.Common.{◌≡◌, ℕ, zero, suc, ◌+◌, ◌-◌, ◌^◌, ◌<◌, ◌≤◌, ℤ, ◌≤ℤ◌, Bool, true, false, cond, ◌&&◌, ◌||◌, List, [], ◌∷◌, ◌++◌, map, length, take, slice_get, Option, Some, None, refl, sym, ap, subst, ◌∙◌, inl, inr, append_assoc, length-append, arith}
+use Rattle.std.proofs.Common.{◌≡◌, ℕ, zero, suc, ◌+◌, ◌-◌, ◌^◌, ◌<◌, ◌≤◌, ℤ, ◌≤ℤ◌, Bool, true, false, cond, ◌&&◌, ◌||◌, List, [], ◌∷◌, ◌++◌, map, length, take, slice_get, IfSome, Option, Some, None, refl, sym, ap, subst, ◌∙◌, inl, inr, append_assoc, length-append, arith}
 use Rattle.std.specs.Prelude.{◌⊎◌, if◌then◌else◌, nat_eq, int_lt, is_some, slice_index_or}
 use Rattle.std.specs.Option.{option_map, option_or, option_to_list}
 use Rattle.std.specs.List.{flat_map, filter, find, list_any, last_or}
@@ -10,32 +10,42 @@ use Rattle.std.proofs.lemmas.List.{append-nil, take_all}
 use Rattle.std.proofs.lemmas.List.Folds.{find-append}
 use Rattle.std.proofs.lemmas.Grind.{flat_map-append}
 use Rattle.lg_base.specs.Volumes.{sum_of, IsWithinLimit}
+use Rattle.lg_containers.specs.NameTable.{pairs_of}
 use Rattle.lg_types.specs.declared.classes.Class.TheVariants.{Account as AccountClass, Key as KeyClass, Reference as ReferenceClass}
 use Rattle.lg_types.specs.declared.moves.Move.{Move}
 use Rattle.lg_types.specs.declared.records.Entry.{Entry}
+use Rattle.lg_types.specs.declared.records.EntryBody.{EntryBody}
+use Rattle.lg_types.specs.declared.records.EntryBody.TheVariants.{NewTransaction, SetMetadata, Reverted, DeleteMetadata}
 use Rattle.lg_types.specs.declared.records.Event.{Event}
 use Rattle.lg_types.specs.declared.records.Event.TheVariants.{Made, Logged}
 use Rattle.lg_types.specs.declared.records.KeyMark.{KeyMark}
 use Rattle.lg_types.specs.declared.records.Posting.{Posting}
+use Rattle.lg_types.specs.declared.records.Target.{Target}
+use Rattle.lg_types.specs.declared.records.Target.TheVariants.{Account, Transaction as TransactionOf}
 use Rattle.lg_types.specs.declared.records.Transaction.{Transaction}
 use Rattle.lg_types.specs.declared.refusals.Refusal.TheVariants.{Limit}
+use Rattle.lg_types.specs.Changes.{MetaOf, Change, account_change, body_changes, entry_changes, changes, same_target, is_about}
 use Rattle.lg_types.specs.Known.{marking, markings, entry_markings, is_marking_of, is_mark_of, has_key as entry_has_key, kept, Referred, referred_by, references, is_referred_as, transaction_of, used, transaction_references, transactions, entry_transactions, Dated, dated, next_entry}
 use Rattle.lg_types.specs.Lists.{Each, last_of}
 use Rattle.lg_types.specs.Log.{log, logged}
 use Rattle.lg_types.specs.Moves.{Placed, what_of, is_of, out_move, in_move, posting_moves, transaction_moves, body_transaction, entry_moves, moves, pair_moves, total}
-use Rattle.lg_types.specs.Parts.{has_account, has_move, has_key, has_reference, part_of, part_moves, part_markings, part_references}
+use Rattle.lg_types.specs.Parts.{has_account, has_target, has_change, has_move, has_key, has_reference, part_of, part_moves, part_changes, part_markings, part_references}
 use Rattle.lg_types.specs.Stripes.{stripe}
 use Rattle.lg_types.specs.Tally.{total_of}
 use Rattle.lg_types.specs.Trial.{passes_limit, tried_moves, lacks, lack_of, is_over, trial_from, limit_from}
 use Rattle.lg_types.proofs.Eachs.{each-map, each-append}
 use Rattle.lg_types.proofs.Limits.{total-posting, total-tried}
 use Rattle.lg_types.proofs.MoveSums.{tally-append, pair_moves-append, volumes-append, moves-snoc}
-use Rattle.lg_types.proofs.StripeKnows.{filter-within, knows-moves, knows-keys, knows-references}
+use Rattle.lg_types.proofs.StripeKnows.{filter-within, knows-moves, knows-changes, knows-keys, knows-references}
+use Rattle.lg_meta.specs.declared.change.DatedChange.{DatedChange}
+use Rattle.lg_meta.specs.MetaFold.{dated_change, last_date}
 use Rattle.lg_moves.specs.Moves.{ComesNext}
 use Rattle.lg_views.specs.Import.{is_before, is_misnumbered, has_used_key, has_used_reference, is_referred, is_over_limit, causes}
 use Rattle.lg_views.proofs.TestAnswers.{AllFalse, all_false, not_false, bytes_same}
 use Rattle.lg_book.specs.Following.{MayFollowLog, MayFollow, IsGrown}
-use Rattle.lg_shard.specs.Holdings.{Holding, no_holding, ledger_holding, own_moves, own_holding, MovesFollow, IsNewKey, IsNewReference, HoldingFollows}
+use Rattle.lg_shard.specs.Holdings.{Holding, no_holding, ledger_holding, own_moves, own_changes, own_holding, MovesFollow, IsLater, ChangesFollow, IsNewKey, IsNewReference, HoldingFollows}
+use Rattle.lg_shard.specs.Shown.{changes_on}
+use Rattle.lg_shard.proofs.HistoryTies.{own-dated}
 use Rattle.lg_shard.proofs.QuietLemmas.{holding-logged}
 use Rattle.lg_plan.specs.Laws.{IsPostingWithin, AreAccountsWithin, MayEnter, EntryFollows, MadeFollows, FaultlessEnters, PartTotals, TotalsStayWithin, TriedWithinLimit}
 
@@ -122,8 +132,27 @@ each-what P (m ∷ ms) h = (h.0, each-what P ms h.1)
 each-pair : (P : Move → Type 0) (ms : List Placed) (account asset : List ℕ) → Each (λ (m : Placed). P m.what) ms → Each P (pair_moves ms account asset)
 each-pair P ms account asset h = each-what P (filter (is_of account asset) ms) (each-filter (λ (m : Placed). P m.what) (is_of account asset) ms h)
 
+-- no move and no change of metadata is dated later than a date that the log's last entry isn't after, and no move is of a later transaction
+record IsLowAt (g : List Entry) (date : ℤ) : Type 0 where
+  moved : Each (λ (m : Placed). IsUpTo (length (transactions g)) date m.what) (moves g)
+  changed : Each (λ (c : Change). c.date ≤ℤ date) (changes g)
+
 abbrev IsLow : List Entry → Type 0
-IsLow g = (date : ℤ) → is_before (last_of g) date ≡ false → Each (λ (m : Placed). IsUpTo (length (transactions g)) date m.what) (moves g)
+IsLow g = (date : ℤ) → is_before (last_of g) date ≡ false → IsLowAt g date
+
+given-dated : (date : ℤ) (given : List (List ℕ × MetaOf)) → Each (λ (c : Change). c.date ≡ date) (map (account_change date) given)
+given-dated date [] = tt
+given-dated date (p ∷ ps) = (refl, given-dated date ps)
+
+-- the changes of an entry have its date
+body-dated : (date : ℤ) (body : EntryBody) → Each (λ (c : Change). c.date ≡ date) (body_changes date body)
+body-dated date (NewTransaction t given) = (refl, given-dated date (pairs_of given))
+body-dated date (SetMetadata target metadata) = (refl, tt)
+body-dated date (Reverted id t) = (refl, tt)
+body-dated date (DeleteMetadata target name) = (refl, tt)
+
+changes-snoc : (g : List Entry) (e : Entry) → changes (g ++ e ∷ []) ≡ changes g ++ entry_changes e
+changes-snoc g e = flat_map-append entry_changes g (e ∷ []) ∙ ap (λ l. changes g ++ l) (append-nil (entry_changes e))
 
 postings-at : (id : ℕ) (inserted effective : ℤ) (ps : List Posting) → Each (λ (m : Placed). IsAt id inserted m.what) (flat_map (posting_moves id inserted effective) ps)
 postings-at id inserted effective [] = tt
@@ -161,10 +190,17 @@ low-snoc : (g : List Entry) (e : Entry) → IsLow g → MayFollowLog g e → IsL
 low-snoc g e h f = λ date after.
     let le : e.date ≤ℤ date = not-less date e.date (subst (λ o. is_before o date ≡ false) (last-snoc None g e) after) in
     let P : Placed → Type 0 = λ m. IsUpTo (length (transactions (g ++ e ∷ []))) date m.what in
-    subst (Each P) (sym (moves-snoc g e))
-    (each-append P (moves g) (entry_moves e)
-    (each-map (λ (m : Placed) up. up-more (length (transactions g)) (length (transactions (g ++ e ∷ []))) e.date date m.what (count-more g e) le up) (moves g) (h e.date f.date))
-    (subst (λ (ts : List Dated). Each (λ (m : Placed). IsUpTo (length ts) date m.what) (entry_moves e)) (sym (transactions-snoc g e)) (transaction-up g e (body_transaction e.body) date f.transaction le)))
+    let Q : Change → Type 0 = λ c. c.date ≤ℤ date in
+    record {
+      moved = subst (Each P) (sym (moves-snoc g e))
+          (each-append P (moves g) (entry_moves e)
+          (each-map (λ (m : Placed) up. up-more (length (transactions g)) (length (transactions (g ++ e ∷ []))) e.date date m.what (count-more g e) le up) (moves g) (h e.date f.date).moved)
+          (subst (λ (ts : List Dated). Each (λ (m : Placed). IsUpTo (length ts) date m.what) (entry_moves e)) (sym (transactions-snoc g e)) (transaction-up g e (body_transaction e.body) date f.transaction le)));
+      changed = subst (Each Q) (sym (changes-snoc g e))
+          (each-append Q (changes g) (entry_changes e)
+          (each-map (λ (c : Change) at. later-date c.date e.date date at le) (changes g) (h e.date f.date).changed)
+          (each-map (λ (c : Change) is. subst (λ x. x ≤ℤ date) (sym is) le) (entry_changes e) (body-dated e.date e.body)));
+    }
 
 low-more : (ledger : List ℕ) (events : List Event) (event : Event) → IsLow (log events ledger) → MayFollow events event → IsLow (log events ledger ++ logged ledger event)
 low-more ledger events (Made info) h f = subst IsLow (sym (append-nil (log events ledger))) h
@@ -175,7 +211,7 @@ low-more ledger events (Logged name e) h f = by_test (bytes_eq name ledger) refl
     by_test false is = subst IsLow (sym (append-nil (log events ledger))) h
 
 low-take : (all : List Event) → IsGrown all → (ledger : List ℕ) (k : ℕ) → k ≤ length all → IsLow (log (take k all) ledger)
-low-take all h ledger zero le = λ date after. tt
+low-take all h ledger zero le = λ date after. record { moved = tt; changed = tt }
 low-take all h ledger (suc k) le =
     let at = there-within k all (omega arith) in
     subst IsLow (sym (ap (λ es. log es ledger) (take-snoc k all at.0 at.1) ∙ log-snoc ledger (take k all) at.0))
@@ -274,7 +310,7 @@ transaction-follows g date (Some t) account asset low after number over within =
     by_pair (inl none) = none-moved (pair_moves (moves g) account asset) (pair_moves (flat_map (posting_moves t.id date t.timestamp) t.postings) account asset) none
     by_pair (inr limit) =
         moves-follow (pair_moves (moves g) account asset) (pair_moves (flat_map (posting_moves t.id date t.timestamp) t.postings) account asset) t.id date
-        (each-pair (IsUpTo t.id date) (moves g) account asset (each-map later (moves g) (low date after)))
+        (each-pair (IsUpTo t.id date) (moves g) account asset (each-map later (moves g) (low date after).moved))
         (each-pair (IsAt t.id date) (flat_map (posting_moves t.id date t.timestamp) t.postings) account asset (postings-at t.id date t.timestamp t.postings))
         (subst (λ (l : List Move). IsWithinLimit (total_of l)) (pair_moves-append (moves g) (flat_map (posting_moves t.id date t.timestamp) t.postings) account asset)
         (subst IsWithinLimit (sym (total-tried (moves g) t.id date t.timestamp t.postings account asset))
@@ -309,7 +345,29 @@ not-mapped f None h = refl
 not-mapped {A} {B} f (Some x) h = absurd (let e : ◌≡◌ {A = Option B} (Some (f x)) None = h in cc)
 
 nothing-follows : (held : Holding) → HoldingFollows held no_holding
-nothing-follows held = record { moves = λ account asset. tt; keys = tt; references = tt }
+nothing-follows held = record { moves = λ account asset. tt; changes = λ account. tt; keys = tt; references = tt }
+
+-- ---- changes that are dated later
+
+dated-within : (date : ℤ) (cs : List Change) → Each (λ (c : Change). c.date ≤ℤ date) cs → Each (λ (d : DatedChange). d.date ≤ℤ date) (map dated_change cs)
+dated-within date [] h = tt
+dated-within date (c ∷ cs) h = (h.0, dated-within date cs h.1)
+
+last-within : (date : ℤ) (ds : List DatedChange) → Each (λ (d : DatedChange). d.date ≤ℤ date) ds → IfSome (last_date ds) (λ last. last ≤ℤ date)
+last-within date [] h = tt
+last-within date (d ∷ []) h = h.0
+last-within date (d ∷ e ∷ es) h = last-within date (e ∷ es) h.1
+
+each-later : (date : ℤ) (before ds : List DatedChange) → IfSome (last_date before) (λ last. last ≤ℤ date) → Each (λ (d : DatedChange). d.date ≡ date) ds → Each (IsLater before) ds
+each-later date before [] last dated = tt
+each-later date before (d ∷ ds) last dated = (subst (λ x. IfSome (last_date before) (λ last. last ≤ℤ x)) (sym dated.0) last, each-later date before ds last dated.1)
+
+none-changed : (before ds : List DatedChange) → ds ≡ [] → Each (IsLater before) ds
+none-changed before ds h = subst (Each (IsLater before)) (sym h) tt
+
+about-stripe : (k : ℕ) (ledger account : List ℕ) (target : Target) → same_target target (Account account) ≡ true → has_target k ledger target ≡ has_account k ledger account
+about-stripe k ledger account (Account name) h = ap (has_account k ledger) (bytes_same name account h)
+about-stripe k ledger account (TransactionOf id) h = absurd (let f : false ≡ true = h in cc)
 
 module _ (k : ℕ) (ledger : List ℕ) (events : List Event) (e : Entry) (grown : IsGrown events) (may : MayEnter (log events ledger) e) where
   abbrev g : List Entry
@@ -333,6 +391,20 @@ module _ (k : ℕ) (ledger : List ℕ) (events : List Event) (e : Entry) (grown 
       by_stripe false is =
           none-moved (pair_moves (part_moves ledger (part_of k events)) account asset) (pair_moves (own_moves k ledger e) account asset)
           (ap (map what_of) (filter-apart (is_of account asset) (has_move k ledger) (entry_moves e) (λ m of. stripe-of-name account m.account (both (bytes_eq m.account account) (bytes_eq m.asset asset) of).0 ∙ is)))
+
+  own-changes-follow : ChangesFollow (part_changes ledger (part_of k events)) (own_changes k ledger e)
+  own-changes-follow account = by_stripe (has_account k ledger account) refl
+    where
+      by_stripe : (b : Bool) → has_account k ledger account ≡ b → Each (IsLater (changes_on (part_changes ledger (part_of k events)) account)) (changes_on (own_changes k ledger e) account)
+      by_stripe true is =
+          each-later e.date (changes_on (part_changes ledger (part_of k events)) account) (changes_on (own_changes k ledger e) account)
+          (subst (λ (cs : List Change). IfSome (last_date (map dated_change cs)) (λ last. last ≤ℤ e.date)) (sym (knows-changes k ledger account events (eqb-true (stripe AccountClass ledger account) k is)))
+          (last-within e.date (changes_on (changes g) account)
+          (dated-within e.date (filter (is_about (Account account)) (changes g)) (each-filter (λ (c : Change). c.date ≤ℤ e.date) (is_about (Account account)) (changes g) (low-log events ledger grown e.date may.follows.date).changed))))
+          (own-dated k ledger e account)
+      by_stripe false is =
+          none-changed (changes_on (part_changes ledger (part_of k events)) account) (changes_on (own_changes k ledger e) account)
+          (ap (map dated_change) (filter-apart (is_about (Account account)) (has_change k ledger) (entry_changes e) (λ c of. about-stripe k ledger account c.target of ∙ is)))
 
   new-key : (mark : KeyMark) → has_used_key g (Some mark) ≡ false → has_key k ledger mark ≡ true → IsNewKey (part_markings ledger (part_of k events)) (marking e.id mark)
   new-key mark unused is =
@@ -367,6 +439,7 @@ module _ (k : ℕ) (ledger : List ℕ) (events : List Event) (e : Entry) (grown 
   own-follows : HoldingFollows (ledger_holding ledger (part_of k events)) (own_holding k ledger e)
   own-follows = record {
     moves = own-moves-follow;
+    changes = own-changes-follow;
     keys = keys-follow e.mark may.key;
     references = references-follow (body_transaction e.body) may.reference;
   }

@@ -12,6 +12,3 @@ mod stripes;
 
 pub use carry::{carry_out, prepare_all};
 pub use plan::Plan;
-
-#[cfg(test)]
-mod tests;
