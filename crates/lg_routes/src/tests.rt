@@ -4,7 +4,7 @@ use crate::*;
 use lg_codec::CodecStop;
 use lg_json::read;
 use lg_targets::Parameter;
-use lg_types::{Call, Filter, ListKind, Query, Read, Reason, Refusal, Write};
+use lg_types::{Call, Filter, Key, ListKind, Query, Read, Reason, Refusal, Write};
 use std::alloc::Global;
 
 /// A reader for which memory is always wanting.
@@ -133,16 +133,17 @@ fn is_forced(write: &Write) -> bool {
     }
 }
 
+fn is_k(key: &Option<Key>) -> bool {
+    match key {
+        Some(key) => key.bytes() == b"k".as_slice(),
+        None => false,
+    }
+}
+
 /// Whether the call has the key `k`, and is such a revert.
 fn is_forced_revert(alloc: Global, target: &[u8]) -> bool {
     match call(alloc, b"POST", target, RequestBody::None) {
-        Ok(
-            Call::Write {
-                key: Some(key),
-                write,
-                ..
-            },
-        ) => key.bytes() == b"k".as_slice() && is_forced(&write),
+        Ok(Call::Write { key, write, .. }) => is_k(&key) && is_forced(&write),
         _ => false,
     }
 }
