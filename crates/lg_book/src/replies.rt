@@ -15,11 +15,7 @@ use lg_views::{Content, Reply, TransactionView};
 use std::alloc::Global;
 
 /// The first reply of an entry, with the volumes of its transaction right after it.
-pub fn reply_of(
-    alloc: Global,
-    entry: &Entry,
-    volumes: &FirstVolumes,
-) -> Result<Reply, NoMemory>
+pub fn reply_of(alloc: Global, entry: &Entry, volumes: &FirstVolumes) -> Result<Reply, NoMemory>
     ensures { IfOk result (λ reply. (g : List Entry) → volumes.now ≡ entry_volumes g entry.now → reply ≡ plain (first_reply g entry.now)) }
 {
     let content = content_of(alloc, entry, volumes)?;
