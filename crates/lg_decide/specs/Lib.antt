@@ -1,1 +1,5 @@
+-- what callers see
+pub mod Decisions
 pub mod Looking
+-- how it is decided
+pub mod Deciding
