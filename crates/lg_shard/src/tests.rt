@@ -60,5 +60,18 @@ fn finds_nothing_in_a_new_shard(rt: HostRuntime) -> Result<(), Fail> {
     assert!(rt; shard.index(&ledger, &account, &asset).is_none());
     assert!(rt; shard.key(&ledger, &key).is_none());
     assert!(rt; shard.reference(&ledger, &reference).is_none());
+    assert!(rt; shard.history(&ledger, &account).is_none());
+    assert!(rt; !shard.known(&ledger, &account));
+    Ok(())
+}
+
+#[test]
+fn lists_nothing_of_a_new_shard(rt: HostRuntime) -> Result<(), Fail> {
+    let alloc = rt.alloc();
+    let shard = Shard::new(alloc, 3);
+    let ledger: LedgerName = Name::read(alloc, b"default")?;
+    let account: Address = Name::read(alloc, b"world")?;
+    assert_eq!(rt; shard.addresses(&ledger)?.len(), 0);
+    assert_eq!(rt; shard.assets(&ledger, &account)?.len(), 0);
     Ok(())
 }
