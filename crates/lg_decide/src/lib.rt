@@ -24,4 +24,6 @@ pub use looked::Looked;
 pub use writes::decide_write;
 
 #[cfg(test)]
+mod call_tests;
+#[cfg(test)]
 mod tests;
