@@ -1,0 +1,3 @@
+pub mod LentLists
+pub mod DoneCalls
+pub mod FreshShards
