@@ -62,12 +62,6 @@ fn told_refusal(alloc: Global, refusal: &Refusal) -> Result<String, Fail> {
     match refusal {
         Refusal::LedgerThere { .. } => Ok(format!(in alloc; "the ledger is there")?),
         Refusal::NotBuilt => Ok(format!(in alloc; "not built")?),
-        Refusal::Lack {
-            posting,
-            balance,
-            amount,
-            ..
-        } => Ok(format!(in alloc; "posting {posting} has {balance} and needs {amount}")?),
         _ => Ok(format!(in alloc; "another refusal")?),
     }
 }
@@ -105,29 +99,6 @@ fn a_repeated_key_is_answered_by_its_entry(rt: HostRuntime) -> Result<(), Fail> 
     let again = asked(alloc, &mut solo, &deposit(alloc)?)?;
     assert_eq!(rt; again.as_str(), "2 0 true: transaction 1 with volumes true");
     assert_eq!(rt; solo.book().len(), 2);
-    Ok(())
-}
-
-fn spent(alloc: Global, solo: &mut Solo, amount: u128) -> Result<String, Fail> {
-    let postings = payment(alloc, b"users:1", b"users:2", amount)?;
-    asked(alloc, solo, &creation(alloc, None, postings)?)
-}
-
-#[test]
-fn an_account_spends_what_it_has(rt: HostRuntime) -> Result<(), Fail> {
-    let alloc = rt.alloc();
-    let mut solo = Solo::new(alloc)?;
-    let _first = asked(alloc, &mut solo, &deposit(alloc)?)?;
-    let lacking = spent(alloc, &mut solo, 101)?;
-    assert_eq!(rt;
-        lacking.as_str(),
-        "2 0 false: posting 0 has 100 and needs 101"
-    );
-    let spent = spent(alloc, &mut solo, 100)?;
-    assert_eq!(rt;
-        spent.as_str(),
-        "2 1 false: transaction 2 with volumes true"
-    );
     Ok(())
 }
 
