@@ -17,6 +17,3 @@ pub use calls::call_of_request;
 pub use kinds::body_kind;
 pub use lg_base::NoMemory;
 pub use lists::ListReader;
-
-#[cfg(test)]
-mod tests;
