@@ -1,5 +1,6 @@
 -- What is looked up in two logs, one after the other: what the first says, or else the second.
-use Rattle.std.proofs.Common.{◌≡◌, ℕ, zero, suc, ◌+◌, ◌-◌, ◌<◌, ◌≤◌, ℤ, Bool, List, [], ◌∷◌, ◌++◌, length, drop, get_or, slice_get, Option, Some, None, refl, sym, ap, ap₂, ◌∙◌, arith}
+use Rattle.std.proofs.Common.{◌≡◌, ℕ, zero, suc, ◌+◌, ◌-◌, ◌<◌, ◌≤◌, ℤ, Bool, true, false, List, [], ◌∷◌, ◌++◌, length, drop, get_or, slice_get, Option, Some, None, refl, sym, ap, ap₂, ◌∙◌, arith}
+use Rattle.std.specs.Prelude.{if◌then◌else◌, int_lt}
 use Rattle.std.specs.Option.{option_map, option_or}
 use Rattle.std.specs.List.{find, flat_map, last_or}
 use Rattle.std.proofs.lemmas.List.{append-nil, length-append, drop_all}
@@ -10,6 +11,7 @@ use Rattle.lg_types.specs.declared.records.Entry.{Entry}
 use Rattle.lg_types.specs.Chain.{entry_hash, head}
 use Rattle.lg_types.specs.Known.{entry_markings, is_marking_of, entry_references, is_referred_as, transaction_of, used, entry_transactions, transactions, has_id, entry_undoings, undoes, date_after, date}
 use Rattle.lg_types.specs.Lists.{last_of}
+use Rattle.lg_types.specs.Moments.{brought}
 use Rattle.lg_shard.specs.Shown.{kept_of}
 use Rattle.lg_weigh.specs.Weighing.{kept_in}
 use Rattle.lg_weigh.proofs.KeptLemmas.{kept_mark}
@@ -108,3 +110,12 @@ module _ (es : List Entry) (i : ℕ) where
   count_done total whole h before =
       let none : length (transactions (drop i es)) ≡ 0 = ap (λ l. length (transactions l)) (drop_all i es h) in
       omega (arith, none, before)
+
+-- the later of a moment and an entry's date
+pub later_is : (e : Entry) (now moment later : ℤ) → moment ≡ brought now → later ≡ (if int_lt moment e.date then e.date else moment) → later ≡ date_after (Some e) now
+later_is e now moment later is told = told ∙ ap (λ (m : ℤ). if int_lt m e.date then e.date else m) is
+
+-- the number of a ledger that is there
+pub counted : (there : Bool) (n m : ℕ) → (if there then Some n else None) ≡ Some m → m ≡ n
+counted true n m h = cc
+counted false n m h = absurd (let f : ◌≡◌ {A = Option ℕ} None (Some m) = h in cc)

@@ -12,7 +12,7 @@ use Rattle.lg_types.specs.declared.refusals.Refusal.{Refusal}
 use Rattle.lg_types.specs.declared.refusals.Refusal.TheVariants.{KeyInput}
 use Rattle.lg_types.specs.Chain.{input_hash}
 use Rattle.lg_types.specs.Known.{kept, date}
-use Rattle.lg_views.specs.declared.decided.Written.TheVariants.{Refuses, Finds}
+use Rattle.lg_views.specs.declared.decided.Written.TheVariants.{Refuses, Finds, Appends}
 use Rattle.lg_views.specs.declared.decided.Decided.TheVariants.{Denied, Granted}
 use Rattle.lg_views.specs.Writes.{decided, marked, appended_if, new_entry, found_if, written_by, written}
 use Rattle.lg_weigh.specs.Weighing.{marked_as, kept_of_entry, kept_in}
@@ -58,9 +58,9 @@ new_tried h key write now t none is = subst (λ w. IsTried h w t) (sym (written_
 
 module _ (h : List Entry) (day own : ℤ) (mark : Option KeyMark) (write : Write) where
   pub denied_tried : (refusal : Refusal) → day ≡ own → decided h own write ≡ Denied refusal → IsTried h (appended_if h day mark (decided h day write)) (tried.Refused refusal)
-  denied_tried refusal same is = subst (λ d. IsTried h (appended_if h day mark d) (tried.Refused refusal)) (sym (ap (λ t. decided h t write) same ∙ is)) refl
+  denied_tried refusal same is = subst (λ d. IsTried h (appended_if h day mark d) (tried.Refused refusal)) (sym (ap (λ z. decided h z write) same ∙ is)) refl
 
-  pub granted_tried : (body : EntryBody) (e : Entry) → day ≡ own → decided h own write ≡ Granted body → e ≡ new_entry h own mark body → IsTried h (appended_if h day mark (decided h day write)) (tried.Appended e)
-  granted_tried body e same is made =
-      subst (λ d. IsTried h (appended_if h day mark d) (tried.Appended e)) (sym (ap (λ t. decided h t write) same ∙ is))
-      (made ∙ ap (λ t. new_entry h t mark body) (sym same))
+  pub granted_tried : (body : EntryBody) (t : Tried) → day ≡ own → decided h own write ≡ Granted body → t ≡ tried.Appended (new_entry h own mark body) → IsTried h (appended_if h day mark (decided h day write)) t
+  granted_tried body t same is made =
+      subst (λ d. IsTried h (appended_if h day mark d) t) (sym (ap (λ z. decided h z write) same ∙ is))
+      (subst (λ (u : Tried). IsTried h (Appends (new_entry h day mark body)) u) (sym made) (ap (λ z. new_entry h z mark body) (sym same)))

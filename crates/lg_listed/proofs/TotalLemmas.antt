@@ -95,3 +95,9 @@ module _ (lent : ℕ → Option StripeState) (ledger : List ℕ) (earlier : List
         plain : (account asset : List ℕ) → IsWithinLimit (sum_of (total_after lent ledger earlier account asset) (worked sheet account asset))
         plain account asset =
             subst IsWithinLimit (sym (ap (sum_of (total_after lent ledger earlier account asset)) (empty.each account asset) ∙ nothing_last (total_after lent ledger earlier account asset))) (within.each account asset)
+
+-- what holds of the shards, the ledger and the entries holds of others that are the same
+pub of_same : (P : (ℕ → Option StripeState) → List ℕ → List Entry → Type 0) (lent shards : ℕ → Option StripeState) (ledger name : List ℕ) (earlier entries : List Entry)
+    → shards ≡ lent → name ≡ ledger → entries ≡ earlier → P lent ledger earlier → P shards name entries
+of_same P lent shards ledger name earlier entries p q r h =
+    subst (λ (f : ℕ → Option StripeState). P f name entries) (sym p) (subst (λ (n : List ℕ). P lent n entries) (sym q) (subst (λ (es : List Entry). P lent ledger es) (sym r) h))

@@ -7,12 +7,6 @@ use Rattle.lg_types.specs.declared.records.Entry.{Entry}
 use Rattle.lg_types.specs.Moves.{moves, total}
 use Rattle.lg_weigh.specs.Totals.{lent_total}
 
--- the shards, the ledger and the entries whose moves are added up
-pub record Known : Type 0 where
-  pub lent : ℕ → Option StripeState
-  pub ledger : List ℕ
-  pub earlier : List Entry
-
 -- the volumes of all moves that the shards know, and then those of the entries
 abbrev pub total_after : (ℕ → Option StripeState) → List ℕ → List Entry → List ℕ → List ℕ → Volumes
 total_after lent ledger earlier account asset = sum_of (lent_total lent ledger account asset) (total (moves earlier) account asset)

@@ -54,7 +54,10 @@ pub fn date_for(ledger: &LedgerName, now: &i64, book: &Book, earlier: &[Entry]) 
     ensures { result ≡ date_of_log (log book.now.events ledger.now ++ earlier.now) now.now }
 {
     match earlier.last() {
-        Some(entry) => later(&entry.date, &bring(now)),
+        Some(entry) => {
+            let moment = bring(now);
+            later(&entry.date, &moment)
+        }
         None => book.date_for(ledger, *now),
     }
 }

@@ -35,14 +35,12 @@ pub fn try_new<S: Shards>(
 {
     let entries = count_entries(ledger, book, earlier)?;
     let date = date_for(ledger, now, book, earlier);
-    match decide(alloc, ledger, write, &date, entries, lent, book, earlier)? {
+    let decided = decide(alloc, ledger, write, &date, entries, lent, book, earlier)?;
+    match decided {
         Decided::Denied(refusal) => Ok(Tried::Refused(refusal)),
-        Decided::Granted(body) => {
-            let entry = append(
-                alloc, ledger, key, write, &date, entries, body, book, earlier,
-            )?;
-            Ok(Tried::Appended(entry))
-        }
+        Decided::Granted(body) => append(
+            alloc, ledger, key, write, &date, entries, body, book, earlier,
+        ),
     }
 }
 
@@ -78,11 +76,12 @@ fn append(
     body: EntryBody,
     book: &Book,
     earlier: &[Entry],
-) -> Result<Entry, NoMemory>
+) -> Result<Tried, NoMemory>
     requires { IsNumber (log book.now.events ledger.now ++ earlier.now) entries }
-    ensures { IfOk result (λ e. e ≡ next_entry (log book.now.events ledger.now ++ earlier.now) date.now (marked key.now write.now) body) }
+    ensures { IfOk result (λ tried. tried ≡ Tried.Appended (next_entry (log book.now.events ledger.now ++ earlier.now) date.now (marked key.now write.now) body)) }
 {
     let mark = mark_of(alloc, key, write)?;
     let before = head(ledger, book, earlier);
-    Ok(new_entry(entries, before, date, mark, body))
+    let entry = new_entry(entries, before, date, mark, body);
+    Ok(Tried::Appended(entry))
 }

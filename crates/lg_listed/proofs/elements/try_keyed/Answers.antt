@@ -1,4 +1,4 @@
-use Rattle.std.proofs.Common.{◌≡◌, ◌++◌, ◌∙◌, ℕ, List, Option, ap, sym, subst}
+use Rattle.std.proofs.Common.{◌≡◌, ◌++◌, ◌∙◌, ℕ, List, Option, Some, ap, sym, subst}
 use Rattle.std.specs.Option.{option_and_then}
 use Rattle.std.proofs.lemmas.Result.{IfOk-weaker}
 use Rattle.lg_types.specs.Log.{log}
@@ -19,7 +19,7 @@ returns-in-Some g c =
     let kept = sym c.in-Some.is ∙ c.find_kept.ensures c.args.book.now.events c.requires.ground.parts in
     IfOk-weaker c.answer_kept.result _ _
     (λ t is.
-    subst (IsTried h (written h _ c.args.write.now c.args.now.now)) (sym is)
+    subst (IsTried h (written h (Some c.args.own.now) c.args.write.now c.args.now.now)) (sym is)
     (kept_tried h (all_numbered c.args.book.now.events c.args.ledger.now c.args.earlier.now c.requires.ground.grown c.requires.ground.follows) c.args.own.now c.args.write.now c.args.now.now c.in-Some.kept kept))
     c.answer_kept.ensures
 

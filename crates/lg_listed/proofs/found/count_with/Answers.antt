@@ -1,10 +1,12 @@
+use Rattle.std.proofs.Common.{◌^◌, arith}
 use Rattle.lg_listed.proofs.AppendLemmas.{count_next, count_within, count_done}
 use Rattle.lg_listed.proofs.found.count_with.Goals as goal
 
 pub overflow_add-total : goal.overflow_add-total
 overflow_add-total c =
-    count_within c.args.entries.now c.loop-entry.entry-index c.entry-item.result c.loop-entry.total c.made_by-total.result c.args.count _
-    c.loop-entry-test.true c.entry-item.is c.made_by-total.ensures c.loop-entry.invariant c.requires
+    let room = count_within c.args.entries.now c.loop-entry.entry-index c.entry-item.result c.loop-entry.total c.made_by-total.result c.args.count (2 ^ 64)
+    c.loop-entry-test.true c.entry-item.is c.made_by-total.ensures c.loop-entry.invariant c.requires in
+    omega (arith, room)
 
 pub loop-entry-preserved : goal.loop-entry-preserved
 loop-entry-preserved c =

@@ -6,8 +6,8 @@ use Rattle.lg_decide.proofs.LogCounts.{transactions_within}
 use Rattle.lg_listed.proofs.TotalLemmas.{parts_lent}
 use Rattle.lg_listed.proofs.new_entries.decide.Goals as goal
 
-pub find_used-requires : goal.find_used-requires
-find_used-requires g c = parts_lent (g.S.Shards.lent c.args.lent.now) c.args.book.now.events c.requires.ground.parts
+pub find_used-used-requires : goal.find_used-used-requires
+find_used-used-requires g c = parts_lent (g.S.Shards.lent c.args.lent.now) c.args.book.now.events c.requires.ground.parts
 
 pub look_up-looked-requires : goal.look_up-looked-requires
 look_up-looked-requires g c = record {
