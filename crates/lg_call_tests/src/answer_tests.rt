@@ -1,8 +1,7 @@
 //! Calls that are answered one after the other.
 
-use crate::requests::{Request, bare, call_of, keyed, midnight, post};
-use crate::texts::body_text;
 use lg_codec::status_of;
+use lg_request_tests::{Request, bare, body_text, call_of, keyed, midnight, post};
 use lg_store::{Answer, Solo};
 use std::alloc::Global;
 use std::process::Abort;

@@ -1,16 +1,15 @@
 //! What the shards and the book say of the ledger `default`, in texts.
 
-ghost use Rattle.std.specs.Prelude.{◌≡◌, ◌<◌, ◌+◌, length};
+ghost use Rattle.std.specs.Prelude.{◌≡◌, ◌<◌};
 
-use crate::requests::midnight;
 use crate::states::State;
-use crate::texts::{body_text, canonical_text, text_of};
 use lg_base::{ByteFeed, Feed};
 use lg_book::Book;
 use lg_containers::{Address, Asset, Key, LedgerName, Meta, Reference};
 use lg_keys::Kept;
 use lg_meta::MetaHistory;
 use lg_moves::MoveIndex;
+use lg_request_tests::{body_text, canonical_text, midnight, text_of};
 use lg_runs::Steps;
 use lg_shard::{Class, Shard, stripe_of};
 use lg_types::Volumes;

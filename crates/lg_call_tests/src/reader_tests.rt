@@ -1,8 +1,8 @@
 //! What the shards and the book know after calls that were carried out.
 
 use crate::questions::{Question, told};
-use crate::requests::{bare, keyed, post};
 use crate::states::{State, state_after};
+use lg_request_tests::{bare, keyed, post};
 use std::alloc::Global;
 use std::process::Abort;
 use std::test::Fail;

@@ -8,10 +8,10 @@ ghost use Rattle.lg_plan.specs.Events.{AreShards};
 ghost use Rattle.lg_plan.specs.Plans.{Fits};
 ghost use Rattle.lg_decide.specs.Decisions.{IsDecided, IsOutcome, known_in, known_to};
 
-use crate::requests::{Request, call_of, midnight};
 use lg_book::Book;
 use lg_decide::{Decision, decide};
 use lg_plan::{Plan, carry_out, prepare_all};
+use lg_request_tests::{Request, call_of, midnight};
 use lg_shard::{Shard, Shards};
 use lg_types::{Call, LedgerName, NoMemory, Transaction, Write};
 use lg_weigh::weigh;
