@@ -63,7 +63,7 @@ fn shard_of<'a>(
     name: &[u8],
 ) -> Result<&'a Shard, Fail> {
     let stripe = stripe_of(class, ledger, name);
-    Ok(state.shards.get(stripe as usize).ok_or("shard")?)
+    Ok(state.shard(stripe).ok_or("shard")?)
 }
 
 fn told_none(alloc: Global) -> Result<String, Fail> {
@@ -176,7 +176,7 @@ fn told_assets(alloc: Global, state: &State, account: &str) -> Result<String, Fa
 }
 
 fn told_addresses(alloc: Global, state: &State, stripe: u8) -> Result<String, Fail> {
-    let shard = state.shards.get(stripe as usize).ok_or("shard")?;
+    let shard = state.shard(stripe).ok_or("shard")?;
     let addresses = shard.addresses(&default_ledger(alloc)?)?;
     let mut feed = ByteFeed::new(alloc);
     for address in addresses.as_slice() {
@@ -278,7 +278,7 @@ fn told_by_shards(alloc: Global, state: &State, question: &Question<'_>) -> Resu
 
 /// The answer of the shards or the book.
 pub fn told(alloc: Global, state: &State, question: &Question<'_>) -> Result<String, Fail> {
-    let book = &state.book;
+    let book = state.book();
     let ledger = default_ledger(alloc)?;
     match question {
         Question::Transaction(id) => told_transaction(alloc, book, *id),

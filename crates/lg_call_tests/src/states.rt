@@ -16,16 +16,8 @@ use lg_shard::{Shard, Shards};
 use lg_types::{Call, LedgerName, NoMemory, Transaction, Write};
 use lg_weigh::weigh;
 use std::alloc::Global;
+use std::marker::Model;
 use std::test::Fail;
-
-/// A shard for each stripe, and the book.
-#[derive(Drop)]
-pub struct State {
-    pub shards: Vec<Shard>,
-    pub book: Book,
-    ghost clean: { book.prepared ≡ [] },
-    ghost parts: { AreShards book.events [] shards.items },
-}
 
 /// The shards of all stripes, each at the place of its stripe.
 #[derive(Clone, Copy)]
@@ -54,12 +46,6 @@ fn fresh_shards(alloc: Global) -> Result<Vec<Shard>, NoMemory>
         shards.push(Shard::new(alloc, stripe))?;
     }
     Ok(shards)
-}
-
-fn first_state(alloc: Global) -> Result<State, Fail> {
-    let book = Book::opened(alloc)?;
-    let shards = fresh_shards(alloc)?;
-    Ok(State { shards, book })
 }
 
 /// The transaction that a write to the ledger reverts, where the ledger has it.
@@ -145,32 +131,68 @@ fn carry_out_call(
     }
 }
 
-/// The state after a call that makes a ledger or writes to one.
-fn after_call(alloc: Global, state: State, call: &Call, now: i64) -> Result<State, Fail>
-    requires { IsDecided call.now }
-{
-    let State {
-        mut shards,
-        mut book,
-    } = state;
-    carry_out_call(alloc, &mut shards, &mut book, call, now)?;
-    Ok(State { shards, book })
+/// A shard for each stripe, and the book.
+#[derive(Drop)]
+pub struct State {
+    alloc: Global,
+    shards: Vec<Shard>,
+    book: Book,
 }
 
-fn after_request(alloc: Global, state: State, request: &Request<'_>) -> Result<State, Fail> {
-    let call = call_of(alloc, request)?;
-    match &call {
-        Call::MakeLedger { .. } => after_call(alloc, state, &call, midnight(request.day)),
-        Call::Write { .. } => after_call(alloc, state, &call, midnight(request.day)),
-        _ => Err("no write".into()),
+impl Model for State {
+    ghost use Rattle.std.specs.Prelude.{◌≡◌, List, []};
+    ghost use Rattle.lg_types.specs.declared.records.Event.{Event};
+    ghost use Rattle.lg_plan.specs.Events.{AreShards};
+
+    ghost Value = { List Event };
+
+    ghost view = { λ s. s.book.events };
+
+    ghost invariant = { λ s. AreShards s.book.events [] s.shards.items × (s.book.prepared ≡ []) };
+}
+
+impl State {
+    fn first(alloc: Global) -> Result<State, Fail> {
+        let book = Book::opened(alloc)?;
+        let shards = fresh_shards(alloc)?;
+        Ok(State {
+            alloc,
+            shards,
+            book,
+        })
+    }
+
+    pub fn shard(&self, stripe: u8) -> Option<&Shard> {
+        self.shards.get(stripe as usize)
+    }
+
+    pub fn book(&self) -> &Book {
+        &self.book
+    }
+
+    /// Carries out a call that makes a ledger or writes to one.
+    fn take_call(&mut self, call: &Call, now: i64) -> Result<(), Fail>
+        requires { IsDecided call.now }
+    {
+        carry_out_call(self.alloc, &mut self.shards, &mut self.book, call, now)
+    }
+
+    /// Carries out the call of a request.
+    fn take_request(&mut self, request: &Request<'_>) -> Result<(), Fail> {
+        let call = call_of(self.alloc, request)?;
+        match &call {
+            Call::MakeLedger { .. } => self.take_call(&call, midnight(request.day)),
+            Call::Write { .. } => self.take_call(&call, midnight(request.day)),
+            _ => Err("no write".into()),
+        }
     }
 }
 
 /// The state after requests that are all carried out.
 pub fn state_after(alloc: Global, requests: &[Request<'_>]) -> Result<State, Fail> {
-    let mut state = first_state(alloc)?;
+    let mut state = State::first(alloc)?;
     for request in requests {
-        state = after_request(alloc, state, request)?;
+        state.take_request(request)?;
     }
     Ok(state)
 }
