@@ -242,7 +242,7 @@ fn told_head(alloc: Global, book: &Book) -> Result<String, Fail> {
 
 fn told_date(alloc: Global, book: &Book, day: u8) -> Result<String, Fail> {
     let date = book.date_for(&default_ledger(alloc)?, midnight(day));
-    for found in 0..=31 {
+    for found in 0..32 {
         if midnight(found) == date {
             return Ok(format!(in alloc; "{found}")?);
         }
