@@ -3,12 +3,22 @@ use Rattle.lg_types.specs.declared.calls.Call.{Call}
 use Rattle.lg_types.specs.declared.calls.Call.TheVariants.{Unreadable, MakeLedger, Write, Bulk, Import, Ledgers, Read}
 use Rattle.lg_types.specs.declared.refusals.Refusal.TheVariants.{NotBuilt}
 
--- the call as it is answered: lists of writes, imports and reads are not built yet
+-- the call as it is answered: imports and reads are not built yet
 abbrev pub as_built : Call → Call
 as_built (Unreadable refusal) = Unreadable refusal
 as_built (MakeLedger ledger bucket metadata) = MakeLedger ledger bucket metadata
 as_built (Write ledger key write) = Write ledger key write
-as_built (Bulk ledger elements atomic go_on) = Unreadable NotBuilt
+as_built (Bulk ledger elements atomic go_on) = Bulk ledger elements atomic go_on
 as_built (Import ledger batch) = Unreadable NotBuilt
 as_built (Ledgers query) = Unreadable NotBuilt
 as_built (Read ledger read) = Unreadable NotBuilt
+
+-- the calls that may add events: one that makes a ledger, a write, and a list of writes
+abbrev pub IsChange : Call → Type 0
+IsChange (Unreadable refusal) = ⊥
+IsChange (MakeLedger ledger bucket metadata) = Unit {0}
+IsChange (Write ledger key write) = Unit {0}
+IsChange (Bulk ledger elements atomic go_on) = Unit {0}
+IsChange (Import ledger batch) = ⊥
+IsChange (Ledgers query) = ⊥
+IsChange (Read ledger read) = ⊥

@@ -9,22 +9,23 @@ ghost use Rattle.lg_views.specs.Replies.{repeated, refused as refusal_reply};
 ghost use Rattle.lg_views.specs.Writes.{first_reply, up_to};
 ghost use Rattle.lg_book.specs.Reading.{find_entry};
 ghost use Rattle.lg_decide.specs.Decisions.{IsOutcome, IsDecided, known_in, known_to, named_ledger};
-ghost use Rattle.lg_store.specs.Built.{as_built};
+ghost use Rattle.lg_store.specs.Built.{as_built, IsChange};
 ghost use Rattle.lg_store.specs.Answering.{IsDone, IsDoneBy};
 
 use crate::done::Done;
 use crate::lent::AllShards;
 use lg_book::Book;
+use lg_bulk::decide_list;
 use lg_decide::{Decision, decide};
 use lg_plan::{Plan, carry_out, prepare_all};
 use lg_shard::Shard;
 use lg_turns::Change;
-use lg_types::{Call, Duplicate, LedgerName, NoMemory, Refusal, Transaction, Write};
+use lg_types::{Call, Duplicate, Elements, LedgerName, NoMemory, Refusal, Transaction, Write};
 use lg_views::{Content, Reply};
 use lg_weigh::weigh;
 use std::alloc::Global;
 
-/// Carries out a call. Lists of writes, imports and reads are refused as not built.
+/// Carries out a call. Imports and reads are refused as not built.
 pub fn answer_call(
     alloc: Global,
     shards: &mut Vec<Shard>,
@@ -43,7 +44,7 @@ pub fn answer_call(
         Call::Unreadable(refusal) => Ok(refused(refusal.copy(alloc)?)),
         Call::MakeLedger { .. } => change(alloc, shards, book, call, now),
         Call::Write { .. } => change(alloc, shards, book, call, now),
-        Call::Bulk { .. } => Ok(refused(Refusal::NotBuilt)),
+        Call::Bulk { .. } => change(alloc, shards, book, call, now),
         Call::Import { .. } => Ok(refused(Refusal::NotBuilt)),
         Call::Ledgers { .. } => Ok(refused(Refusal::NotBuilt)),
         Call::Read { .. } => Ok(refused(Refusal::NotBuilt)),
@@ -64,7 +65,7 @@ fn refused(refusal: Refusal) -> Done
     }
 }
 
-/// Carries out a call that makes a ledger or writes to one.
+/// Carries out a call that makes a ledger or writes to one, once or by a list.
 fn change(
     alloc: Global,
     shards: &mut Vec<Shard>,
@@ -72,7 +73,7 @@ fn change(
     call: &Call,
     now: i64,
 ) -> Result<Done, NoMemory>
-    requires kind { IsDecided call.now }
+    requires kind { IsChange call.now }
     requires clean { book.old.prepared ≡ [] }
     requires shards { AreShards book.old.events [] shards.old.items }
     ensures clean { book.new.prepared ≡ [] }
@@ -80,12 +81,58 @@ fn change(
     ensures done { IfOk result (IsDone book.old.events call.now now book.new.events) }
     ensures same { OnErr result (book.new.events ≡ book.old.events) }
 {
-    match decide_call(alloc, shards.as_slice(), book, call, now)? {
+    match decide_change(alloc, shards.as_slice(), book, call, now)? {
         Decision::Refused(refusal) => Ok(refused(refusal)),
         Decision::Kept { entry } => repeat(book, ledger_of(call), entry),
         Decision::Answered(reply) => Ok(Done { events: 0, reply }),
         Decision::Planned(plan) => add(plan, shards, book),
     }
+}
+
+/// What becomes of a call that makes a ledger or writes to one, once or by a list.
+fn decide_change(
+    alloc: Global,
+    shards: &[Shard],
+    book: &Book,
+    call: &Call,
+    now: i64,
+) -> Result<Decision, NoMemory>
+    requires kind { IsChange call.now }
+    requires shards { AreShards book.now.events [] shards.now }
+    ensures { IfOk result (λ decision. IsOutcome book.now.events call.now now decision) }
+{
+    match call {
+        Call::MakeLedger { .. } => decide_call(alloc, shards, book, call, now),
+        Call::Write { .. } => decide_call(alloc, shards, book, call, now),
+        Call::Bulk {
+            ledger,
+            elements,
+            atomic,
+            go_on,
+        } => decide_elements(alloc, shards, book, ledger, elements, *atomic, *go_on, now),
+        Call::Unreadable(_) => unreachable!(),
+        Call::Import { .. } => unreachable!(),
+        Call::Ledgers { .. } => unreachable!(),
+        Call::Read { .. } => unreachable!(),
+    }
+}
+
+/// What becomes of a list of writes.
+fn decide_elements(
+    alloc: Global,
+    shards: &[Shard],
+    book: &Book,
+    ledger: &LedgerName,
+    elements: &Elements,
+    atomic: bool,
+    go_on: bool,
+    now: i64,
+) -> Result<Decision, NoMemory>
+    requires shards { AreShards book.now.events [] shards.now }
+    ensures { IfOk result (λ decision. IsOutcome book.now.events (Call.Bulk ledger.now elements.now atomic go_on) now decision) }
+{
+    let lent = AllShards { shards };
+    decide_list(alloc, ledger, elements, atomic, go_on, now, &lent, book)
 }
 
 /// What becomes of a call that makes a ledger or writes to one.
@@ -138,12 +185,13 @@ fn reverted_transaction<'a>(
 
 /// The ledger that a call names.
 fn ledger_of(call: &Call) -> &LedgerName
-    requires { IsDecided call.now }
+    requires { IsChange call.now }
     ensures { result.now ≡ named_ledger call.now }
 {
     match call {
         Call::MakeLedger { ledger, .. } => ledger,
         Call::Write { ledger, .. } => ledger,
+        Call::Bulk { ledger, .. } => ledger,
         _ => unreachable!(),
     }
 }

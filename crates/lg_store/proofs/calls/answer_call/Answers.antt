@@ -13,11 +13,6 @@ returns-in_ok-copy-in-Unreadable-clause-done c =
     subst (λ (x : Call). IsDone c.args.book.now.events (as_built x) c.args.now c.args.book.now.events c.refused.result) (sym c.in-Unreadable.is)
     (refusal_done c.args.book.now.events c.in-Unreadable.refusal c.args.now c.refused.result c.refused.ensures.events (c.refused.ensures.reply ∙ ap (λ (r : Refusal). refused r) c.in_ok-copy-in-Unreadable.ensures))
 
-pub returns-in-Bulk-clause-done : goal.returns-in-Bulk-clause-done
-returns-in-Bulk-clause-done c =
-    subst (λ (x : Call). IsDone c.args.book.now.events (as_built x) c.args.now c.args.book.now.events c.refused-in-Bulk.result) (sym c.in-Bulk.is)
-    (refusal_done c.args.book.now.events NotBuilt c.args.now c.refused-in-Bulk.result c.refused-in-Bulk.ensures.events c.refused-in-Bulk.ensures.reply)
-
 pub returns-in-Import-clause-done : goal.returns-in-Import-clause-done
 returns-in-Import-clause-done c =
     subst (λ (x : Call). IsDone c.args.book.now.events (as_built x) c.args.now c.args.book.now.events c.refused-in-Import.result) (sym c.in-Import.is)
