@@ -1,0 +1,7 @@
+pub mod BatchLemmas
+pub mod GroundLemmas
+pub mod KeptLemmas
+pub mod ListLemmas
+pub mod PlanLemmas
+pub mod VolumeLemmas
+pub mod TriedLemmas
