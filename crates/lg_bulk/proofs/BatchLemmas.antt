@@ -1,6 +1,5 @@
 -- What one element does to the answer to a list.
 use Rattle.std.proofs.Common.{◌≡◌, ℕ, suc, ◌+◌, ◌≤◌, ◌<◌, ℤ, Bool, true, false, List, [], ◌∷◌, ◌++◌, length, drop, get_or, Option, Some, None, refl, sym, ap, subst, ◌∙◌, append_assoc, add-one, drop-cons}
-use Rattle.std.specs.Prelude.{if◌then◌else◌}
 use Rattle.std.proofs.lemmas.List.{append-nil, drop_all}
 use Rattle.lg_types.specs.declared.calls.Element.{Element}
 use Rattle.lg_types.specs.declared.calls.ElementWrite.{ElementWrite}
@@ -22,7 +21,7 @@ use Rattle.lg_book.specs.Index.{all_volumes}
 use Rattle.lg_bulk.specs.declared.gathered.Gathered.{Gathered}
 use Rattle.lg_bulk.specs.declared.gathered.Gathering.TheVariants.{Failed, Complete}
 use Rattle.lg_bulk.specs.declared.gathered.Turn.TheVariants.{GoOn, End, Fail}
-use Rattle.lg_bulk.specs.Gathering.{ComesTo, IsGathered, IsTurn, nothing_gathered, with_result, with_entry, gathered_with, refusal_in, put_before, answer_after, gathered_answer, failed_answer}
+use Rattle.lg_bulk.specs.Gathering.{ComesTo, IsGathered, IsTurn, nothing_gathered, with_result, with_entry, gathered_with, refusal_in, put_before, answer_after, gathered_answer}
 
 -- ---- what is gathered
 
@@ -115,20 +114,24 @@ module _ (g : List Entry) (now : ℤ) (before : Gathered) (k : ℕ) (x : Element
   pub turn-ends : (after middle : Gathered) (refusal : Refusal) → IsGathered g before → refusal_in (element_written h x now) ≡ Some refusal → middle ≡ gathered_with h x before (element_written h x now)
       → after ≡ with_result middle (FailedItem k refusal) → IsTurn g false false now before k x after End
   turn-ends after middle refusal gathered is same more =
-      subst (λ a. IsTurn g false false now before k x a End) (sym (ended after refusal is middle same more))
-      (gathered-result g before (FailedItem k refusal) gathered, λ xs.
-      ap (λ w. bulk_answer false (put_before before (left false xs w))) (as-refused (element_written h x now) refusal is)
-      ∙ same_answer (before.results ++ FailedItem k refusal ∷ []) (before.results ++ FailedItem k refusal ∷ []) (before.entries ++ []) before.entries refl (append-nil before.entries))
+      subst (λ a. IsTurn g false false now before k x a End) (sym (ended after refusal is middle same more)) (
+        gathered-result g before (FailedItem k refusal) gathered,
+        λ xs.
+            ap (λ w. bulk_answer false (put_before before (left false xs w))) (as-refused (element_written h x now) refusal is)
+            ∙ same_answer (before.results ++ FailedItem k refusal ∷ []) (before.results ++ FailedItem k refusal ∷ []) (before.entries ++ []) before.entries refl (append-nil before.entries),
+      )
 
   pub turn-goes : (after middle : Gathered) (refusal : Refusal) → IsGathered g before → refusal_in (element_written h x now) ≡ Some refusal → middle ≡ gathered_with h x before (element_written h x now)
       → after ≡ with_result middle (FailedItem k refusal) → IsTurn g false true now before k x after GoOn
   turn-goes after middle refusal gathered is same more =
-      subst (λ a. IsTurn g false true now before k x a GoOn) (sym (ended after refusal is middle same more))
-      (gathered-result g before (FailedItem k refusal) gathered, λ xs.
-      let rest : Batched = batched h (k + 1) true now xs in
-      ap (λ w. bulk_answer false (put_before before (left true xs w))) (as-refused (element_written h x now) refusal is)
-      ∙ same_answer (before.results ++ FailedItem k refusal ∷ rest.results) ((before.results ++ FailedItem k refusal ∷ []) ++ rest.results) (before.entries ++ rest.entries) (before.entries ++ rest.entries)
-      (sym (append_assoc before.results (FailedItem k refusal ∷ []) rest.results)) refl)
+      subst (λ a. IsTurn g false true now before k x a GoOn) (sym (ended after refusal is middle same more)) (
+        gathered-result g before (FailedItem k refusal) gathered,
+        λ xs.
+            let rest : Batched = batched h (k + 1) true now xs in
+            ap (λ w. bulk_answer false (put_before before (left true xs w))) (as-refused (element_written h x now) refusal is)
+            ∙ same_answer (before.results ++ FailedItem k refusal ∷ rest.results) ((before.results ++ FailedItem k refusal ∷ []) ++ rest.results) (before.entries ++ rest.entries) (before.entries ++ rest.entries)
+            (sym (append_assoc before.results (FailedItem k refusal ∷ []) rest.results)) refl,
+      )
 
 -- ---- all elements
 

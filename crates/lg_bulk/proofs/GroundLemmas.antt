@@ -1,5 +1,5 @@
 -- Events with the entries that a list appends.
-use Rattle.std.proofs.Common.{◌≡◌, ℕ, ◌+◌, ◌<◌, ◌≤◌, Bool, true, ◌||◌, List, [], ◌∷◌, ◌++◌, map, length, take, slice_get, Option, Some, None, refl, sym, ap, subst, ◌∙◌, append_assoc, inl, inr, arith}
+use Rattle.std.proofs.Common.{◌≡◌, ℕ, ◌+◌, ◌<◌, ◌≤◌, true, ◌||◌, List, [], ◌∷◌, ◌++◌, map, length, take, Option, Some, None, refl, sym, ap, subst, ◌∙◌, append_assoc, inl, inr, arith}
 use Rattle.std.specs.Prelude.{IsSomeAnd, IfSome, if◌then◌else◌}
 use Rattle.std.proofs.Math.Seq.{take-append_seam}
 use Rattle.std.proofs.lemmas.List.{append-nil, take-append-le}
@@ -20,15 +20,14 @@ use Rattle.lg_types.specs.Moves.{Placed, moves, body_transaction, total}
 use Rattle.lg_types.specs.Parts.{part_of}
 use Rattle.lg_types.specs.Stripes.{stripe}
 use Rattle.lg_types.specs.Tally.{total_of}
-use Rattle.lg_views.specs.Import.{fault, causes, FollowsFrom}
+use Rattle.lg_views.specs.Import.{fault, FollowsFrom}
 use Rattle.lg_views.proofs.Outcomes.{log-append, log-logged}
-use Rattle.lg_views.proofs.TestAnswers.{same_bytes, all_false}
-use Rattle.lg_book.specs.FirstVolumes.{entry_volumes}
+use Rattle.lg_views.proofs.TestAnswers.{same_bytes}
 use Rattle.lg_book.specs.Following.{MayFollow, IsGrown}
 use Rattle.lg_book.specs.Index.{all_volumes}
 use Rattle.lg_shard.specs.Shown.{account_moves}
 use Rattle.lg_shard.specs.State.{StripeState}
-use Rattle.lg_plan.specs.Events.{MayPrepare, AllPrepare}
+use Rattle.lg_plan.specs.Events.{AllPrepare}
 use Rattle.lg_plan.specs.Laws.{IsPostingWithin, AreAccountsWithin, MayEnter}
 use Rattle.lg_plan.proofs.Entering.{entry-follows, faultless-enters, part-totals, totals-stay-within}
 use Rattle.lg_decide.specs.Deciding.{IsLimited}
@@ -101,7 +100,7 @@ entries-prepare events ledger (e ∷ es) ready follows =
     let same : log (events ++ Logged ledger e ∷ []) ledger ≡ log events ledger ++ e ∷ [] = log-after events ledger (e ∷ []) in (
       record { shards = λ k. entry-follows events ledger e k ready.grown may; book = (ready.there, may.follows); first = refl },
       subst (λ g. AllPrepare (events ++ Logged ledger e ∷ []) (map (Logged ledger) es) (all_volumes g es)) same
-      (entries-prepare (events ++ Logged ledger e ∷ []) ledger es (ready-more events ledger e ready follows.0) (subst (λ g. FollowsFrom g es) (sym same) follows.1)),
+          (entries-prepare (events ++ Logged ledger e ∷ []) ledger es (ready-more events ledger e ready follows.0) (subst (λ g. FollowsFrom g es) (sym same) follows.1)),
     )
 
 -- ---- what lent shards know
@@ -120,8 +119,10 @@ pub ready : (lent : ℕ → Option StripeState) (events : List Event) (ledger : 
 ready lent events ledger ground = record {
   there = ground.there;
   grown = ground.grown;
-  within = record { each = λ account asset.
-    let k : ℕ = stripe AccountClass ledger account in
-    let below : k < 16 = below-sixteen AccountClass ledger account in
-    known-within events ledger account asset (lent k) (ground.parts k below) (ground.limits k below) };
+  within = record {
+    each = λ account asset.
+        let k : ℕ = stripe AccountClass ledger account in
+        let below : k < 16 = below-sixteen AccountClass ledger account in
+        known-within events ledger account asset (lent k) (ground.parts k below) (ground.limits k below);
+  };
 }

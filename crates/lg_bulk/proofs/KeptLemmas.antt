@@ -1,19 +1,17 @@
 -- An entry that has a key, in the log with the entries of the list.
-use Rattle.std.proofs.Common.{◌≡◌, ℕ, zero, suc, true, false, ◌+◌, ◌-◌, ◌<◌, ◌≤◌, List, [], ◌∷◌, ◌++◌, length, take, slice_get, Option, Some, None, refl, sym, ap, subst, ◌∙◌, add-one, append_assoc, inl, inr, arith}
+use Rattle.std.proofs.Common.{◌≡◌, ℕ, zero, suc, true, false, ◌+◌, ◌-◌, ◌<◌, ◌≤◌, List, [], ◌∷◌, ◌++◌, length, take, slice_get, Option, Some, None, refl, sym, ap, subst, ◌∙◌, append_assoc, inl, inr, arith}
 use Rattle.std.specs.Prelude.{◌⊎◌, IsSome, IfSome}
 use Rattle.std.specs.List.{position_or_len}
 use Rattle.std.proofs.Math.Seq.{take-append-add}
 use Rattle.std.proofs.lemmas.Bool.{eqb-true}
 use Rattle.std.proofs.lemmas.List.{take-append-le}
 use Rattle.std.proofs.lemmas.List.Folds.{find_at}
-use Rattle.std.proofs.lemmas.Option.{slice_get_within}
 use Rattle.lg_types.specs.declared.records.Entry.{Entry}
 use Rattle.lg_types.specs.declared.records.Event.{Event}
 use Rattle.lg_types.specs.Log.{log}
 use Rattle.lg_views.specs.declared.replies.Reply.{Reply}
 use Rattle.lg_views.specs.Replies.{plain}
 use Rattle.lg_views.specs.Writes.{first_reply, up_to}
-use Rattle.lg_book.specs.declared.volumes.FirstVolumes.{FirstVolumes}
 use Rattle.lg_book.specs.FirstVolumes.{entry_volumes}
 use Rattle.lg_book.specs.Index.{all_volumes}
 use Rattle.lg_book.specs.Reading.{find_entry, is_numbered}
@@ -72,30 +70,30 @@ module _ (events : List Event) (ledger : List ℕ) (ready : IsReady events ledge
       by_place : (k : ℕ) → IsPlaced h id e k → IsOld ⊎ IsNew
       by_place k p = elim (append_cases g gathered.entries e k p.at) [
         | inl old ↦ (
-          let below : k < length g = old.0 in
-          let own : e.id ≡ suc k = p.own in
-          let named : id ≡ suc k = p.named in
-          let most : e.id ≤ length g = omega arith in
-          inl (record {
-            most = omega arith;
-            found_old = ap (find_entry g) (named ∙ sym own) ∙ (entries_by_id events ledger k e ready.grown old.1).1;
-            same = sym (take-append-le e.id g gathered.entries most);
-          }))
+            let below : k < length g = old.0 in
+            let own : e.id ≡ suc k = p.own in
+            let named : id ≡ suc k = p.named in
+            let most : e.id ≤ length g = omega arith in
+            inl (record {
+              most = omega arith;
+              found_old = ap (find_entry g) (named ∙ sym own) ∙ (entries_by_id events ledger k e ready.grown old.1).1;
+              same = sym (take-append-le e.id g gathered.entries most);
+            }))
         | inr new ↦ (
-          let past : length g ≤ k = new.0 in
-          let own : e.id ≡ suc k = p.own in
-          let named : id ≡ suc k = p.named in
-          let place : k - length g ≡ id - length g - 1 = omega arith in
-          let count : length g + suc (k - length g) ≡ e.id = omega arith in
-          inr (record {
-            more = omega arith;
-            entry_at = ap (slice_get gathered.entries) (sym place) ∙ new.1;
-            volumes_at =
-                ap (slice_get gathered.volumes) (sym place)
-                ∙ ap (λ vs. slice_get vs (k - length g)) is.volumes
-                ∙ volumes-at g gathered.entries (k - length g) e new.1
-                ∙ ap (λ l. Some (entry_volumes l e)) (sym (take-append-add g gathered.entries (suc (k - length g))) ∙ ap (λ n. take n h) count);
-          }))
+            let past : length g ≤ k = new.0 in
+            let own : e.id ≡ suc k = p.own in
+            let named : id ≡ suc k = p.named in
+            let place : k - length g ≡ id - length g - 1 = omega arith in
+            let count : length g + suc (k - length g) ≡ e.id = omega arith in
+            inr (record {
+              more = omega arith;
+              entry_at = ap (slice_get gathered.entries) (sym place) ∙ new.1;
+              volumes_at =
+                  ap (slice_get gathered.volumes) (sym place)
+                  ∙ ap (λ vs. slice_get vs (k - length g)) is.volumes
+                  ∙ volumes-at g gathered.entries (k - length g) e new.1
+                  ∙ ap (λ l. Some (entry_volumes l e)) (sym (take-append-add g gathered.entries (suc (k - length g))) ∙ ap (λ n. take n h) count);
+            }))
       ]
 
   module _ (logged : ℕ) (count : logged ≡ length g) where

@@ -1,3 +1,4 @@
+pub mod ElementLemmas
 pub mod BatchLemmas
 pub mod GroundLemmas
 pub mod KeptLemmas

@@ -1,5 +1,5 @@
 -- What is decided of a list stands for its outcome.
-use Rattle.std.proofs.Common.{◌≡◌, ℕ, suc, ◌+◌, ◌<◌, ℤ, Bool, true, false, List, [], ◌∷◌, ◌++◌, map, length, Option, Some, None, refl, sym, ap, subst, ◌∙◌, arith}
+use Rattle.std.proofs.Common.{◌≡◌, ℕ, suc, ◌+◌, ◌<◌, ℤ, Bool, true, false, List, [], ◌∷◌, ◌++◌, map, length, Option, refl, sym, ap, subst, ◌∙◌}
 use Rattle.std.specs.Prelude.{if◌then◌else◌, nat_lt}
 use Rattle.std.specs.List.{zip}
 use Rattle.std.proofs.lemmas.Slice.Zip.{firsts-zip, seconds-zip}
@@ -12,12 +12,12 @@ use Rattle.lg_types.specs.declared.records.Event.{Event}
 use Rattle.lg_types.specs.declared.records.Event.TheVariants.{Made, Logged}
 use Rattle.lg_types.specs.declared.refusals.Refusal.TheVariants.{NoLedger}
 use Rattle.lg_types.specs.Log.{log, is_there}
-use Rattle.lg_types.specs.Parts.{Resource, is_in, resources, touches}
+use Rattle.lg_types.specs.Parts.{is_in, resources, touches}
 use Rattle.lg_types.specs.Stripes.{stripe}
 use Rattle.lg_views.specs.declared.replies.BulkItem.{BulkItem}
 use Rattle.lg_views.specs.declared.replies.Reply.{Reply}
 use Rattle.lg_views.specs.Bulk.{batched, bulk_answer, bulk_reply}
-use Rattle.lg_views.specs.Outcome.{ToBulk, on_ledger, no_ledger, in_ledger, outcome}
+use Rattle.lg_views.specs.Outcome.{on_ledger, no_ledger, outcome}
 use Rattle.lg_book.specs.declared.volumes.FirstVolumes.{FirstVolumes}
 use Rattle.lg_book.specs.Index.{all_volumes}
 use Rattle.lg_shard.specs.State.{StripeState}
@@ -25,7 +25,7 @@ use Rattle.lg_plan.specs.Events.{any_touches, AllPrepare}
 use Rattle.lg_plan.specs.Plans.{PlanState, no_mark, with_event}
 use Rattle.lg_decide.specs.declared.decisions.Decision.{Decision}
 use Rattle.lg_decide.specs.declared.decisions.Decision.TheVariants as decision
-use Rattle.lg_decide.specs.Decisions.{IsOutcome, IsPlanned, IsAnswered, StandsFor}
+use Rattle.lg_decide.specs.Decisions.{IsOutcome, IsPlanned, StandsFor}
 use Rattle.lg_bulk.specs.declared.gathered.Gathered.{Gathered}
 use Rattle.lg_bulk.specs.declared.gathered.Gathering.{Gathering}
 use Rattle.lg_bulk.specs.declared.gathered.Gathering.TheVariants.{Failed, Complete}

@@ -1,5 +1,5 @@
 -- What an element comes to, by what was tried.
-use Rattle.std.proofs.Common.{◌≡◌, ℕ, List, Option, Some, None, refl, sym, ap}
+use Rattle.std.proofs.Common.{◌≡◌, ℕ, List, Some, refl, sym, ap}
 use Rattle.lg_types.specs.declared.records.Entry.{Entry}
 use Rattle.lg_types.specs.declared.refusals.Refusal.{Refusal}
 use Rattle.lg_views.specs.declared.decided.Written.{Written}

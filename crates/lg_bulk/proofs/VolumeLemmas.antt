@@ -1,6 +1,6 @@
 -- The volumes of an entry that a list appends can be read, and are those over the log with the earlier entries.
-use Rattle.std.proofs.Common.{◌≡◌, ℕ, ◌+◌, ◌<◌, false, List, [], ◌∷◌, ◌++◌, length, get_or, Option, Some, None, refl, sym, ap, subst, ◌∙◌}
-use Rattle.std.specs.Prelude.{All, IsSome, IsSomeAnd}
+use Rattle.std.proofs.Common.{◌≡◌, ℕ, ◌+◌, false, List, [], ◌∷◌, ◌++◌, get_or, Option, Some, None, refl, sym, ap, subst}
+use Rattle.std.specs.Prelude.{IsSome, IsSomeAnd}
 use Rattle.std.specs.List.{flat_map}
 use Rattle.lg_base.specs.Volumes.{IsWithinLimit}
 use Rattle.lg_types.specs.declared.classes.Class.TheVariants.{Account as AccountClass}
@@ -10,7 +10,7 @@ use Rattle.lg_types.specs.declared.records.Transaction.{Transaction}
 use Rattle.lg_types.specs.Known.{transaction_accounts, next_transaction}
 use Rattle.lg_types.specs.Log.{log}
 use Rattle.lg_types.specs.MoveLaws.{IsWithin}
-use Rattle.lg_types.specs.Moves.{moves, pair_moves, body_transaction}
+use Rattle.lg_types.specs.Moves.{moves, body_transaction}
 use Rattle.lg_types.specs.Stripes.{stripe}
 use Rattle.lg_types.specs.Tally.{total_of}
 use Rattle.lg_types.specs.Trial.{limit_from}
@@ -25,7 +25,7 @@ use Rattle.lg_commit_volumes.proofs.AroundLemmas.{log_moves}
 use Rattle.lg_commit_volumes.proofs.LawLemmas.{tried_is_within}
 use Rattle.lg_commit_volumes.proofs.NumberLemmas.{next_is_greater}
 use Rattle.lg_plan.specs.Laws.{MayEnter}
-use Rattle.lg_bulk.specs.Gathering.{Ground, MayAppend}
+use Rattle.lg_bulk.specs.Gathering.{MayAppend}
 use Rattle.lg_bulk.proofs.GroundLemmas.{events_after, log-after, IsReady, ready, ready-after, may-enter, below-sixteen}
 
 some-there : {A : Type 0} (P : A → Type 0) (o : Option A) → IsSomeAnd o P → IsSome o

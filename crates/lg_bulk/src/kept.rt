@@ -38,11 +38,7 @@ pub fn kept_content(
 }
 
 /// The first reply of the entry at the place among those that were gathered.
-fn gathered_content(
-    alloc: Global,
-    place: usize,
-    gathered: &Gathered,
-) -> Result<Content, NoMemory>
+fn gathered_content(alloc: Global, place: usize, gathered: &Gathered) -> Result<Content, NoMemory>
     requires entry { IsSome (slice_get gathered.now.entries place) }
     requires volumes { IsSome (slice_get gathered.now.volumes place) }
     ensures { IfOk result (λ content. (g : List Entry) (e : Entry) → slice_get gathered.now.entries place ≡ Some e → slice_get gathered.now.volumes place ≡ Some (entry_volumes g e) → content ≡ first_reply g e) }

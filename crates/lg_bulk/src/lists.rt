@@ -87,11 +87,7 @@ fn take_turn<S: Shards>(
                 return Ok(Turn::Fail(failed));
             }
             gathered.results.push(failed)?;
-            if go_on {
-                Ok(Turn::GoOn)
-            } else {
-                Ok(Turn::End)
-            }
+            if go_on { Ok(Turn::GoOn) } else { Ok(Turn::End) }
         }
     }
 }

@@ -1,4 +1,4 @@
-use Rattle.std.proofs.Common.{◌≡◌, ℤ, length, sym, subst, ◌∙◌, w64}
+use Rattle.std.proofs.Common.{ℤ, length, sym, subst, ◌∙◌, w64}
 use Rattle.std.specs.Prelude.{IfOk}
 use Rattle.std.proofs.lemmas.Bool.{lt-ltb}
 use Rattle.std.proofs.lemmas.Int.{to_z-of_z}
@@ -15,7 +15,7 @@ decide_there-requires g c =
     let events = c.args.book.now.events in
     let counted = count_there (is_there events c.args.ledger.now) c.in-Some.logged (length (log events c.args.ledger.now)) (sym c.in-Some.is ∙ c.log_len.ensures) in
     record {
-      ground = record { there = counted.0; grown = c.len-_count.ensures.grown; parts = λ k below. c.requires.each k (lt-ltb k 16 below); limits = c.totals_within.ensures };
+      ground = record { there = counted.0; grown = c.len-count.ensures.grown; parts = λ k below. c.requires.parts.each k (lt-ltb k 16 below); limits = c.totals_within.ensures };
       logged = counted.1;
     }
 

@@ -1,4 +1,4 @@
-use Rattle.std.proofs.Common.{◌≡◌, ◌<◌, ◌++◌, ◌-◌, Some, slice_get}
+use Rattle.std.proofs.Common.{◌++◌, ◌-◌}
 use Rattle.std.proofs.lemmas.Result.{IfOk-weaker}
 use Rattle.lg_types.specs.Log.{log}
 use Rattle.lg_views.specs.Writes.{up_to}
@@ -33,8 +33,8 @@ returns-then-logged-entry c =
     h (up_to (log events c.args.ledger.now ++ c.args.gathered.now.entries) e) e new.0 new.1)
     c.gathered_content.ensures
 
-pub returns-else-logged-entry : goal.returns-else-logged-entry
-returns-else-logged-entry c = λ e found.
+pub returns : goal.returns
+returns c = λ e found.
     let events = c.args.book.now.events in
     let log_of = log events c.args.ledger.now in
     let whole = ready c.requires.ground.0 events c.args.ledger.now c.requires.ground.1 in

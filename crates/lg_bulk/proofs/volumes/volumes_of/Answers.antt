@@ -1,4 +1,4 @@
-use Rattle.std.proofs.Common.{◌≡◌, None, ap, subst, sym}
+use Rattle.std.proofs.Common.{ap}
 use Rattle.std.proofs.lemmas.Result.{IfOk-weaker}
 use Rattle.lg_types.specs.Moves.{body_transaction}
 use Rattle.lg_bulk.proofs.VolumeLemmas.{are-lent, are-within, shown-volumes}
@@ -13,8 +13,8 @@ first_volumes-requires g c =
       limit = are-within lent c.requires.0 c.args.ledger.now c.args.earlier.now c.args.entry.now may c.in-NewTransaction.transaction (ap body_transaction c.in-NewTransaction.is);
     }
 
-pub first_volumes-in-Reverted-requires : goal.first_volumes-in-Reverted-requires
-first_volumes-in-Reverted-requires g c =
+pub first_volumes-requires-in-Reverted : goal.first_volumes-requires-in-Reverted
+first_volumes-requires-in-Reverted g c =
     let lent = g.S.Shards.lent c.args.lent.now in
     let may = c.requires.1 in
     record {
