@@ -1,4 +1,4 @@
-use Rattle.std.proofs.Common.{◌++◌, ◌-◌}
+use Rattle.std.proofs.Common.{◌++◌}
 use Rattle.std.proofs.lemmas.Result.{IfOk-weaker}
 use Rattle.lg_types.specs.Log.{log}
 use Rattle.lg_views.specs.Writes.{up_to}
