@@ -1,0 +1,5 @@
+-- what callers see
+pub mod Elements
+-- how it is tried
+pub mod Amounts
+pub mod Trying
