@@ -1,8 +1,7 @@
 -- Entries that follow a log are numbered on, and found by their ids.
-use Rattle.std.proofs.Common.{◌≡◌, ℕ, zero, suc, ◌+◌, Bool, false, cond, List, [], ◌∷◌, ◌++◌, length, slice_get, Option, Some, None, refl, sym, ap, subst, ◌∙◌, inl, inr, add-one, append_assoc, arith}
+use Rattle.std.proofs.Common.{◌≡◌, ℕ, zero, suc, ◌+◌, false, cond, List, [], ◌∷◌, ◌++◌, length, slice_get, Option, Some, None, refl, sym, ap, subst, ◌∙◌, inl, inr, add-one, append_assoc, arith}
 use Rattle.std.specs.Prelude.{◌⊎◌, nat_eq}
 use Rattle.std.proofs.lemmas.List.{append-nil}
-use Rattle.std.specs.List.{find}
 use Rattle.std.proofs.lemmas.Bool.{eqb-true, eq-eqb}
 use Rattle.std.proofs.lemmas.Bool.Decides.{nat_tests}
 use Rattle.lg_types.specs.declared.records.Entry.{Entry}
@@ -12,7 +11,7 @@ use Rattle.lg_types.specs.Log.{log}
 use Rattle.lg_views.specs.Import.{causes, fault, FollowsFrom}
 use Rattle.lg_views.proofs.TestAnswers.{all_false, not_false}
 use Rattle.lg_book.specs.Following.{IsGrown}
-use Rattle.lg_book.specs.Reading.{is_numbered, find_entry}
+use Rattle.lg_book.specs.Reading.{find_entry}
 use Rattle.lg_book.proofs.EntryIds.{sound_log}
 use Rattle.lg_book.proofs.Sound.{IsSound}
 

@@ -1,5 +1,5 @@
 -- What elements append may follow their log.
-use Rattle.std.proofs.Common.{◌≡◌, ℕ, ℤ, List, [], ◌∷◌, ◌++◌, Option, Some, None, refl, sym, subst}
+use Rattle.std.proofs.Common.{◌≡◌, ℕ, ℤ, List, [], ◌∷◌, ◌++◌, Option, None, refl, sym, subst}
 use Rattle.lg_types.specs.declared.calls.Element.{Element}
 use Rattle.lg_types.specs.declared.calls.ElementWrite.{ElementWrite}
 use Rattle.lg_types.specs.declared.calls.ElementWrite.TheVariants.{Good, Bad}

@@ -1,7 +1,5 @@
 -- What the shard of a key or a reference knows of it is what the log knows.
-use Rattle.std.proofs.Common.{◌≡◌, ℕ, List, Option, Some, None, refl, ◌∙◌}
-use Rattle.std.specs.Prelude.{IsSome}
-use Rattle.lg_keys.specs.declared.kept.Kept.{Kept}
+use Rattle.std.proofs.Common.{◌≡◌, ℕ, List, Option, Some}
 use Rattle.lg_shard.specs.Shown.{kept_under, used_under}
 use Rattle.lg_shard.specs.State.{StripeState}
 use Rattle.lg_types.specs.declared.classes.Class.TheVariants.{Key as KeyClass, Reference as ReferenceClass}
@@ -9,7 +7,7 @@ use Rattle.lg_types.specs.declared.records.Event.{Event}
 use Rattle.lg_types.specs.Known.{used}
 use Rattle.lg_types.specs.Log.{log}
 use Rattle.lg_types.specs.Stripes.{stripe}
-use Rattle.lg_weigh.specs.Lent.{AreLent, AreParts}
+use Rattle.lg_weigh.specs.Lent.{AreParts}
 use Rattle.lg_weigh.specs.Weighing.{kept_in}
 use Rattle.lg_weigh.proofs.WeighLemmas.{key_known, reference_known}
 use Rattle.lg_listed.specs.Elements.{every_stripe}

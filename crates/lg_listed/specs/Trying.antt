@@ -1,5 +1,5 @@
 -- How an element is tried.
-use Rattle.std.specs.Prelude.{◌≡◌, ◌<◌, ◌+◌, ◌^◌, ℕ, true, if◌then◌else◌, List, ◌++◌, length, Option, Some, None}
+use Rattle.std.specs.Prelude.{◌≡◌, ◌<◌, ◌+◌, ◌^◌, ℕ, true, if◌then◌else◌, List, length, Option, Some, None}
 use Rattle.std.specs.Str.{bytes_eq}
 use Rattle.lg_book.specs.Following.{IsGrown}
 use Rattle.lg_keys.specs.declared.kept.Kept.{Kept}

@@ -19,6 +19,3 @@ mod tried;
 pub use elements::try_element;
 pub use lg_types::NoMemory;
 pub use tried::Tried;
-
-#[cfg(test)]
-mod tests;

@@ -1,4 +1,4 @@
-use Rattle.std.proofs.Common.{refl, ap, ◌∙◌, sym}
+use Rattle.std.proofs.Common.{refl, ap}
 use Rattle.std.specs.Option.{option_copied}
 use Rattle.lg_decide.specs.Looking.{transaction_at}
 use Rattle.lg_listed.proofs.AppendLemmas.{transaction-append}

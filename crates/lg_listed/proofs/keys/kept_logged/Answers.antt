@@ -1,9 +1,7 @@
-use Rattle.std.proofs.Common.{◌∙◌, sym, ap, subst}
-use Rattle.std.specs.Prelude.{IsSome}
+use Rattle.std.proofs.Common.{◌∙◌, sym, ap}
 use Rattle.lg_types.specs.declared.classes.Class.TheVariants.{Key as KeyClass}
 use Rattle.lg_types.specs.Stripes.{stripe}
 use Rattle.lg_listed.proofs.ShardLemmas.{key_in_log}
-use Rattle.lg_listed.proofs.TotalLemmas.{in_every}
 use Rattle.lg_listed.proofs.keys.kept_logged.Goals as goal
 
 pub returns : goal.returns

@@ -1,4 +1,4 @@
-use Rattle.std.proofs.Common.{◌≡◌, ◌++◌, ◌∙◌, length, sym, arith}
+use Rattle.std.proofs.Common.{◌≡◌, ◌∙◌, length, sym, arith}
 use Rattle.lg_types.specs.Known.{transactions}
 use Rattle.lg_types.specs.Log.{log, is_there}
 use Rattle.lg_decide.proofs.LogCounts.{transactions_within}

@@ -1,7 +1,6 @@
-use Rattle.std.proofs.Common.{◌++◌, ◌∙◌, arith, length, sym}
+use Rattle.std.proofs.Common.{◌++◌, ◌∙◌, arith}
 use Rattle.std.proofs.lemmas.Result.{IfOk-weaker}
 use Rattle.lg_types.specs.Log.{log}
-use Rattle.lg_types.specs.Known.{transactions}
 use Rattle.lg_decide.proofs.LogCounts.{transactions_within}
 use Rattle.lg_listed.proofs.TotalLemmas.{parts_lent}
 use Rattle.lg_listed.proofs.new_entries.decide.Goals as goal

@@ -1,9 +1,7 @@
-use Rattle.std.proofs.Common.{◌∙◌, sym, ap, subst}
-use Rattle.std.specs.Prelude.{IsSome}
+use Rattle.std.proofs.Common.{◌∙◌, sym, ap}
 use Rattle.lg_types.specs.declared.classes.Class.TheVariants.{Reference as ReferenceClass}
 use Rattle.lg_types.specs.Stripes.{stripe}
 use Rattle.lg_listed.proofs.ShardLemmas.{reference_in_log}
-use Rattle.lg_listed.proofs.TotalLemmas.{in_every}
 use Rattle.lg_listed.proofs.references.used_logged.Goals as goal
 
 pub returns : goal.returns
