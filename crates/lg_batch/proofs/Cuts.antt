@@ -26,10 +26,10 @@ one_part bs some = grind (arith, common_steps)
 abbrev place : List ℕ → ℕ
 place bs = position_or_len (λ b. b == 10) bs
 
-place_some : (a n end : ℕ) → cond (nat_lt a n) (Some a) None ≡ Some end → (a ≡ end) × (a < n)
+pub place_some : (a n end : ℕ) → cond (nat_lt a n) (Some a) None ≡ Some end → (a ≡ end) × (a < n)
 place_some a n end e = (grind (arith, common_steps, e), grind (arith, common_steps, e))
 
-place_none : (a n : ℕ) → cond (nat_lt a n) (Some a) None ≡ None → n ≤ a
+pub place_none : (a n : ℕ) → cond (nat_lt a n) (Some a) None ≡ None → n ≤ a
 place_none a n e = grind (arith, common_steps, e)
 
 -- a first line that ends at a newline

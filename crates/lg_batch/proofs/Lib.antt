@@ -1,13 +1,9 @@
 pub mod Buffering
-pub mod Built
+pub mod TakenOut
+pub mod Calls
 pub mod Cuts
-pub mod Found
 pub mod History
-pub mod LogLemmas
-pub mod Nested
 pub mod Numbered
 pub mod Placing
-pub mod PlainLemmas
-pub mod Shown
-pub mod TotalLemmas
-pub mod TrialLemmas
+pub mod Readings
+pub mod SameMembers
