@@ -17,7 +17,7 @@ struct Ending {
 
 /// Calls the program over sinks in memory.
 fn call<S: Source>(alloc: Global, words: &[String], source: &mut S) -> Result<Ending, Fail> {
-    let mut out = CalmSink::new(alloc, 4096)?;
+    let mut out = CalmSink::new(alloc, 8192)?;
     let mut error = CalmSink::new(alloc, 256)?;
     let status = top(alloc, words, source, &mut out, &mut error);
     Ok(Ending { status, out, error })

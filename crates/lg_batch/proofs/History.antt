@@ -9,7 +9,8 @@ use Rattle.lg_types.specs.declared.records.Event.{Event}
 use Rattle.lg_views.specs.History.{Alone, AloneFrom, IsAnswerTo, end_of}
 use Rattle.lg_views.specs.declared.answers.Answer.{Answer}
 use Rattle.lg_views.specs.declared.lines.ScriptLine.{ScriptLine}
-use Rattle.lg_batch.specs.Runs.{built_line, AreAnswered}
+use Rattle.lg_views.specs.Output.{script_output}
+use Rattle.lg_batch.specs.Runs.{built_line, AreAnswered, IsOutputOf}
 
 -- whatever answers the lines that are left, from these events on, has answered all lines from the first event on
 pub record Continues (lines : List ScriptLine) (events : List Event) (left : List ScriptLine) (answers : List Answer) : Type 0 where
@@ -81,3 +82,13 @@ pub finish_at : (lines : List ScriptLine) (i : ℕ) (events : List Event) (answe
     → Continues lines events (drop i lines) answers → length lines ≤ i → AreAnswered events lines answers
 finish_at lines i events answers c past =
     finish lines events answers (subst (λ (ls : List ScriptLine). Continues lines events ls answers) (drop_of_length-le lines past) c)
+
+-- what is written is the output of a history
+pub output_of : (lines : List ScriptLine) (events seen : List Event) (answers shown : List Answer) → AreAnswered events lines answers
+    → seen ≡ events → shown ≡ answers → IsOutputOf lines (script_output seen lines shown)
+output_of lines events seen answers shown alone seen_is shown_is = record {
+  events = events;
+  answers = answers;
+  alone = alone;
+  output_is = ap (λ (s : List Event). script_output s lines shown) seen_is ∙ ap (λ (given : List Answer). script_output events lines given) shown_is;
+}

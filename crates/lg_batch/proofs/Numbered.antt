@@ -1,7 +1,8 @@
 -- Lines that are read one after the other.
-use Rattle.std.proofs.Common.{◌≡◌, ℕ, ◌==◌, true, false, ◌+◌, ◌≤◌, List, [], ◌∷◌, ◌++◌, length, refl, ap, sym, subst, ◌∙◌, append_assoc, append-nil, arith, eqb-true}
+use Rattle.std.proofs.Common.{◌≡◌, ℕ, ◌==◌, Bool, true, false, cond, ◌+◌, ◌≤◌, List, [], ◌∷◌, ◌++◌, length, refl, ap, sym, subst, ◌∙◌, append_assoc, append-nil, arith, eqb-true}
 use Rattle.std.specs.List.{filter, enumerate_from}
 use Rattle.std.specs.Str.Lines.{lines}
+use Rattle.std.proofs.lemmas.Grind.{common_steps}
 use Rattle.lg_views.specs.Checked.{has_bytes}
 use Rattle.lg_views.specs.declared.lines.ScriptLine.{ScriptLine}
 use Rattle.lg_batch.specs.Lines.{IsLine, AreLinesAfter, AreLines}
@@ -18,6 +19,9 @@ pub record Goes (bytes : List ℕ) (read : List ScriptLine) (number phase : ℕ)
 pub goes_from : (bytes : List ℕ) → Goes bytes [] 1 0 bytes
 goes_from bytes = record { on = λ more are. are; count = omega arith }
 
+some_bytes : (number b : ℕ) (bs : List ℕ) → has_bytes (number, b ∷ bs) ≡ true
+some_bytes number b bs = grind (arith, common_steps)
+
 -- one line, and those after it
 with_line : (phase number : ℕ) (line : List ℕ) (places : List (ℕ × List ℕ)) (read new : List ScriptLine) (after : ℕ) (more : List ScriptLine)
     → Appends phase number line read new after → AreLinesAfter after (filter has_bytes places) more
@@ -27,7 +31,8 @@ with_line phase number [] places read new after more a rest =
 with_line phase number (b ∷ bs) places read new after more a rest = (
   a.0 ∷ more,
   ap (λ (ls : List ScriptLine). ls ++ more) a.2 ∙ append_assoc read (a.0 ∷ []) more,
-  (a.1, subst (λ (p : ℕ). AreLinesAfter p (filter has_bytes places) more) a.3 rest),
+  subst (λ (v : Bool). AreLinesAfter phase (cond v ((number, b ∷ bs) ∷ filter has_bytes places) (filter has_bytes places)) (a.0 ∷ more)) (sym (some_bytes number b bs))
+      (a.1, subst (λ (p : ℕ). AreLinesAfter p (filter has_bytes places) more) a.3 rest),
 )
 
 pub goes_on : (bytes left line after : List ℕ) (read new : List ScriptLine) (number phase next : ℕ) → Goes bytes read number phase left → lines left ≡ line ∷ lines after

@@ -13,7 +13,8 @@ use lg_views::{Answer, ScriptLine};
 use std::alloc::Global;
 
 /// Runs a script on one thread, over ledgers of its own, and writes the output: a line for each reply, then a line for
-/// each event. Nothing is written where memory is wanting before the first line.
+/// each event. Nothing is written where memory is wanting for the run itself; a call for which it is wanting is
+/// answered so, and adds nothing.
 pub fn run_script<K: Sink>(alloc: Global, script: &Script, out: &mut K) -> RunEnd
     ensures { EndsRun K.Sink script.now out.old out.new result }
 {

@@ -2,7 +2,8 @@
 
 ghost use Rattle.std.specs.Prelude.{◌≡◌, IfOk};
 ghost use Rattle.lg_codec.specs.Stops.{StopsWith};
-ghost use Rattle.lg_types.specs.declared.refusals.Refusal.TheVariants.{LineMember};
+ghost use Rattle.lg_codec.specs.declared.stop.CodecStop.TheVariants.{Refused};
+ghost use Rattle.lg_types.specs.declared.refusals.Refusal.TheVariants.{LineJson, LineMember};
 ghost use Rattle.lg_views.specs.Script.{line_fault};
 ghost use Rattle.lg_batch.specs.Reads.{stop_of};
 
@@ -28,7 +29,9 @@ pub fn bad_member(alloc: Global, name: &str, reason: Reason) -> CodecStop
     }
 }
 
-fn bad_text(fault: FaultKind, place: usize) -> CodecStop {
+fn bad_text(fault: FaultKind, place: usize) -> CodecStop
+    ensures { result ≡ Refused (LineJson fault place) }
+{
     CodecStop::Refused(Refusal::LineJson {
         fault,
         place: place as u64,

@@ -9,5 +9,5 @@ use Rattle.lg_batch.proofs.content.content_in.Goals as goal
 
 pub returns : goal.returns
 returns g c =
-    same_content c.args.lowest (members_seen c.args.members) (members_seen c.as_slice.result.now) (option_map tree c.take_body.result) c.take_body.ensures.body
-    (λ name h. ap (λ (ms : List Member). value_of name (members_seen ms)) c.as_slice.ensures ∙ c.take_body.ensures.others name h) c.content_with.result c.content_with.ensures
+    same_content c.args.lowest (members_seen c.args.members) (members_seen c.as_slice.result.now) (option_map tree c.take_body-body.result) c.take_body-body.ensures.body
+    (λ name h. ap (λ (ms : List Member). value_of name (members_seen ms)) c.as_slice.ensures ∙ c.take_body-body.ensures.others name h) c.content_with.result c.content_with.ensures
