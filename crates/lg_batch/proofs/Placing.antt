@@ -1,7 +1,6 @@
--- Loops over the items of lists with their places, and over two lists at once.
+-- Loops over the items of lists with their places.
 use Rattle.std.proofs.Common.{◌≡◌, ℕ, ◌+◌, ◌<◌, ◌≤◌, List, [], ◌∷◌, length, get_or, Option, Some, None, sym, ap, subst, ◌∙◌, refl, zero-add, arith}
-use Rattle.std.specs.List.{enumerate_from, zip}
-use Rattle.std.proofs.lemmas.Slice.Zip.{get_or-zip}
+use Rattle.std.specs.List.{enumerate_from}
 use Rattle.std.specs.Prelude.{slice_get}
 use Rattle.std.proofs.lemmas.List.{get_or_default}
 use Rattle.std.proofs.lemmas.List.FromFn.{get_or-enumerate_from}
@@ -21,7 +20,3 @@ event_at (e ∷ events) i h = (
   placed (e ∷ events) i (get_or (e ∷ events) i e) h (get_or_default (e ∷ events) i e (get_or (e ∷ events) i e) h),
   ap (line_at i) (slice_get-get_or (e ∷ events) i e h),
 )
-
--- the pair at a place of both lists
-pub paired : {A B : Type 0} (xs : List A) (ys : List B) (i : ℕ) (a : A) (b : B) → i < length xs → i < length ys → a ≡ get_or xs i a → b ≡ get_or ys i b → (a, b) ≡ get_or (zip xs ys) i (a, b)
-paired xs ys i a b h g p q = ap (λ x. (x, b)) p ∙ ap (λ y. (get_or xs i a, y)) q ∙ sym (get_or-zip xs ys i (a, b) h g)
