@@ -2,7 +2,6 @@
 use Rattle.std.proofs.Common.{◌≡◌, ◌⊎◌, ℕ, Bool, true, false, ◌&&◌, ◌||◌, cond, List, [], ◌∷◌, Option, Some, None, refl, sym, ap, subst, ◌∙◌, inl, inr}
 use Rattle.std.specs.Prelude.{codes, MatchBool, Result, Ok, Err, IfOk, ℤ}
 use Rattle.std.specs.List.{filter, list_any}
-use Rattle.std.specs.Option.{option_map}
 use Rattle.std.specs.Str.{bytes_eq}
 use Rattle.std.proofs.lemmas.Bool.{false≢true}
 use Rattle.std.proofs.lemmas.Slice.Eq.{bytes_eq-Decides}
@@ -16,7 +15,7 @@ use Rattle.lg_types.specs.declared.calls.Call.TheVariants.{Unreadable}
 use Rattle.lg_types.specs.declared.refusals.Refusal.TheVariants.{NotBuilt}
 use Rattle.lg_views.specs.Answers.{Answer}
 use Rattle.lg_views.specs.Requests.{Body, NoBody, ValueBody, IsRequest}
-use Rattle.lg_views.specs.Routes.{Route, Row, ImportLogs, Segment, Named, route, post, word, below_ledger, body_kind, routes, routes_at, has_path, has_method, fits_path}
+use Rattle.lg_views.specs.Routes.{Route, ImportLogs, Segment, route, post, word, below_ledger, body_kind, routes, routes_at, has_path, has_method, fits_path}
 use Rattle.lg_views.specs.Script.{IsBodyOf, IsCallIn, takes_lines, is_import_route, is_import, LineContent, content}
 use Rattle.lg_views.specs.Targets.{path_segments}
 use Rattle.lg_batch.specs.Lines.{CallIn}

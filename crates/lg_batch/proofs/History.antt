@@ -6,7 +6,7 @@ use Rattle.lg_store.specs.Answering.{Answers}
 use Rattle.lg_types.specs.Lists.{IsPrefix}
 use Rattle.lg_types.specs.Log.{first_events}
 use Rattle.lg_types.specs.declared.records.Event.{Event}
-use Rattle.lg_views.specs.History.{Alone, AloneFrom, IsAnswerTo, end_of}
+use Rattle.lg_views.specs.History.{AloneFrom, IsAnswerTo}
 use Rattle.lg_views.specs.declared.answers.Answer.{Answer}
 use Rattle.lg_views.specs.declared.lines.ScriptLine.{ScriptLine}
 use Rattle.lg_views.specs.Output.{script_output}

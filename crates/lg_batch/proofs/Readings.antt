@@ -1,18 +1,18 @@
 -- How the readings of a line compose.
-use Rattle.std.proofs.Common.{◌≡◌, ℕ, List, Option, Some, None, refl, sym, ap, subst, ◌∙◌, inl, inr}
-use Rattle.std.specs.Prelude.{Result, Ok, Err, ℤ, IfOk, IfErr}
+use Rattle.std.proofs.Common.{◌≡◌, ℕ, List, Option, Some, None, refl, sym, subst, inl, inr}
+use Rattle.std.specs.Prelude.{Result, Ok, Err}
 use Rattle.std.specs.Result.{IsErrAnd}
 use Rattle.lg_codec.specs.Stops.{StopsWith}
 use Rattle.lg_codec.specs.declared.stop.CodecStop.{CodecStop}
 use Rattle.lg_codec.specs.declared.stop.CodecStop.TheVariants.{Refused, NoMemory}
-use Rattle.lg_json.specs.Fault.{IsFault, MayFail}
+use Rattle.lg_json.specs.Fault.{MayFail}
 use Rattle.lg_json.specs.Tree.{Tree}
 use Rattle.lg_json.specs.declared.json.JsonFault.{JsonFault}
 use Rattle.lg_json.specs.declared.json.JsonFault.TheVariants as faults
 use Rattle.lg_types.specs.declared.refusals.Refusal.{Refusal}
 use Rattle.lg_views.specs.Answers.{Answer, Then}
 use Rattle.lg_views.specs.Checked.{Shows}
-use Rattle.lg_views.specs.Script.{LineContent, line_fault, IsLineFault}
+use Rattle.lg_views.specs.Script.{line_fault, IsLineFault}
 use Rattle.lg_batch.specs.Lines.{ContentBy, LineAnswer}
 use Rattle.lg_batch.specs.Reads.{ReadsAs, stop_of, content_seen}
 use Rattle.lg_batch.specs.declared.content.LineContent.{LineContent as Content}

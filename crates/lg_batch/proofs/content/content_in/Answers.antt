@@ -1,4 +1,4 @@
-use Rattle.std.proofs.Common.{◌≡◌, ℕ, List, ap, ◌∙◌}
+use Rattle.std.proofs.Common.{List, ap, ◌∙◌}
 use Rattle.std.specs.Option.{option_map}
 use Rattle.lg_codec.specs.Seen.{members_seen}
 use Rattle.lg_json.specs.Tree.{tree}

@@ -1,5 +1,5 @@
 use Rattle.std.proofs.Common.{◌≡◌, w64, rules}
-use Rattle.std.proofs.lemmas.Int.{ints, to_z-of_z}
+use Rattle.std.proofs.lemmas.Int.{to_z-of_z}
 use mir.Val.{to_z, of_z}
 use Rattle.std.specs.Option.{option_map}
 use Rattle.lg_json.specs.Tree.{tree}

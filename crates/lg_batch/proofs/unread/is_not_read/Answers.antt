@@ -1,4 +1,4 @@
-use Rattle.std.proofs.Common.{◌≡◌, ℕ, List, Option, ap, ◌∙◌}
+use Rattle.std.proofs.Common.{ℕ, List, Option, ap, ◌∙◌}
 use Rattle.std.specs.List.{slice_split}
 use Rattle.lg_targets.specs.Table.{found_in}
 use Rattle.lg_views.specs.Routes.{routes_at}
