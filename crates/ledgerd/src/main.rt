@@ -6,6 +6,8 @@ mod errors;
 mod limits;
 mod program;
 #[cfg(test)]
+mod rows;
+#[cfg(test)]
 mod tests;
 mod words;
 

@@ -1,6 +1,6 @@
 -- A text that is fed to a sink through a buffer, which is written at the end.
-use Rattle.std.proofs.Common.{◌≡◌, ℕ, ◌≤◌, List, [], ◌++◌, sym, ap, subst, ◌∙◌, append_assoc, arith}
-use Rattle.std.specs.Prelude.{true, false, Option, Result, Ok, Err, OnErr, IfOk, IsErr}
+use Rattle.std.proofs.Common.{◌≡◌, ℕ, ◌≤◌, List, [], ◌++◌, sym, ap, ◌∙◌, append_assoc, arith}
+use Rattle.std.specs.Prelude.{true, false, Option, Result, Ok, Err, IfOk, IsErr}
 use Rattle.lg_base.specs.Growth.{Rose, Gives, HasCause}
 use Rattle.lg_base.specs.Told.{Told}
 use Rattle.lg_base.specs.Buffering.{Ahead, ToldInPart, PassesOn}

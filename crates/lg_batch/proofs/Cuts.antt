@@ -1,11 +1,10 @@
 -- The first line of a text, and the lines of what follows it.
-use Rattle.std.proofs.Common.{◌≡◌, ℕ, ◌+◌, ◌-◌, ◌<◌, ◌≤◌, Bool, true, false, cond, ◌==◌, nat_lt, List, [], ◌∷◌, length, take, drop, get_or, All, Option, Some, None, position, refl, ap, sym, subst, ◌∙◌, arith}
+use Rattle.std.proofs.Common.{◌≡◌, ℕ, ◌+◌, ◌-◌, ◌<◌, ◌≤◌, Bool, true, false, cond, ◌==◌, nat_lt, List, [], ◌∷◌, length, take, drop, Some, None, position, refl, ap, sym, subst, ◌∙◌, arith}
 use Rattle.std.specs.List.{slice_split, onto_first, position_or_len}
 use Rattle.std.specs.Str.Lines.{lines, lines_of_parts, strip_carriage_return}
 use Rattle.std.proofs.lemmas.List.Splits.{slice_split_first, slice_split_none}
 use Rattle.std.proofs.lemmas.List.Sums.{fails_before_first}
 use Rattle.std.proofs.lemmas.List.Elements.{All-from_get_or}
-use Rattle.std.proofs.lemmas.Bool.Decides.{nat_tests}
 use Rattle.std.proofs.lemmas.Grind.{common_steps}
 
 onto : (x : List ℕ) (b : ℕ) (parts : List (List ℕ)) → lines_of_parts (x ∷ onto_first b parts) ≡ strip_carriage_return x ∷ lines_of_parts (onto_first b parts)
@@ -26,10 +25,10 @@ one_part bs some = grind (arith, common_steps)
 abbrev place : List ℕ → ℕ
 place bs = position_or_len (λ b. b == 10) bs
 
-place_some : (a n end : ℕ) → cond (nat_lt a n) (Some a) None ≡ Some end → (a ≡ end) × (a < n)
+pub place_some : (a n end : ℕ) → cond (nat_lt a n) (Some a) None ≡ Some end → (a ≡ end) × (a < n)
 place_some a n end e = (grind (arith, common_steps, e), grind (arith, common_steps, e))
 
-place_none : (a n : ℕ) → cond (nat_lt a n) (Some a) None ≡ None → n ≤ a
+pub place_none : (a n : ℕ) → cond (nat_lt a n) (Some a) None ≡ None → n ≤ a
 place_none a n e = grind (arith, common_steps, e)
 
 -- a first line that ends at a newline

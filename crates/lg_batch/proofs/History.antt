@@ -1,147 +1,94 @@
 -- A history of one thread, line by line.
-use Rattle.std.proofs.Common.{◌≡◌, ℕ, ◌+◌, ◌≤◌, List, [], ◌∷◌, ◌++◌, length, take, drop, flat_map, refl, sym, ap, subst, ◌∙◌, append_assoc, inl, inr, arith, length-append, get_or, ◌<◌, drop_of_length-le}
-use Rattle.std.specs.Prelude.{Option, Some, None, slice_get, ℤ, ◌⊎◌}
-use Rattle.std.specs.List.{zip}
+use Rattle.std.proofs.Common.{◌≡◌, ℕ, ◌+◌, ◌≤◌, List, [], ◌∷◌, ◌++◌, length, take, drop, map, refl, sym, ap, subst, ◌∙◌, append_assoc, arith, length-append, get_or, ◌<◌, drop_of_length-le}
 use Rattle.std.proofs.Math.Seq.{take-append_seam, drop-append_seam}
 use Rattle.std.proofs.lemmas.List.{append-nil, drop_more}
-use Rattle.std.proofs.lemmas.Grind.{flat_map-append}
+use Rattle.lg_store.specs.Answering.{Answers}
 use Rattle.lg_types.specs.Lists.{IsPrefix}
 use Rattle.lg_types.specs.Log.{first_events}
 use Rattle.lg_types.specs.declared.records.Event.{Event}
-use Rattle.lg_types.specs.declared.records.Event.TheVariants.{Logged}
-use Rattle.lg_types.specs.declared.refusals.Refusal.TheVariants.{OutOfMemory}
-use Rattle.lg_views.specs.History.{Alone, AloneFrom, IsAnswerTo, owned, end_of}
-use Rattle.lg_views.specs.Replies.{refused}
-use Rattle.lg_views.specs.Outcome.{outcome}
+use Rattle.lg_views.specs.History.{AloneFrom, IsAnswerTo}
 use Rattle.lg_views.specs.declared.answers.Answer.{Answer}
 use Rattle.lg_views.specs.declared.lines.ScriptLine.{ScriptLine}
-use Rattle.lg_views.specs.declared.replies.Reply.{Reply}
-use Rattle.lg_views.specs.Output.{line_text, event_lines}
-use Rattle.lg_batch.specs.Output.{reply_line}
-use Rattle.lg_batch.specs.Running.{without_volumes, entry_reply, Takes, Appends, Refuses}
-use Rattle.lg_batch.specs.Runs.{RunsTo, IsOutputOf}
-use Rattle.lg_batch.specs.TakenTexts.{taken_text, taken_line, taken_output, entry_line}
-use Rattle.lg_batch.specs.declared.taken.Taken.{Taken}
-use Rattle.lg_batch.specs.declared.taken.Taken.TheVariants.{Appended, Refused}
-use Rattle.lg_batch.specs.declared.taken_lines.TakenLine.{TakenLine}
+use Rattle.lg_views.specs.Output.{script_output}
+use Rattle.lg_batch.specs.Runs.{built_line, AreAnswered, IsOutputOf}
 
 -- whatever answers the lines that are left, from these events on, has answered all lines from the first event on
-pub record Continues (lines : List ScriptLine) (events : List Event) (left : List ScriptLine) (takens : List TakenLine) : Type 0 where
-  pub answers : List Answer
+pub record Continues (lines : List ScriptLine) (events : List Event) (left : List ScriptLine) (answers : List Answer) : Type 0 where
   pub first : IsPrefix first_events events
-  pub on : (more : List Event) (others : List Answer) → AloneFrom (events ++ more) (length events) left others → AloneFrom (events ++ more) 1 lines (answers ++ others)
-  pub shown : (more : List Event) (others : List Answer) → flat_map reply_line (zip lines (answers ++ others)) ≡ flat_map (taken_line (events ++ more)) takens ++ flat_map reply_line (zip left others)
-
-abbrev answer_at : List Event → List Event → Reply → Answer
-answer_at events own reply = record { front = length events; events = length own; reply = reply }
-
-abbrev taken_at : List Event → ScriptLine → Taken → TakenLine
-taken_at events l taken = record { line = l.line; front = length events; taken = taken }
+  pub on : (more : List Event) (others : List Answer) → AloneFrom (events ++ more) (length events) (map built_line left) others → AloneFrom (events ++ more) 1 (map built_line lines) (answers ++ others)
 
 -- the events of an answer stand behind those before it
 owned_is : (events own more : List Event) → take (length own) (drop (length events) (events ++ (own ++ more))) ≡ own
 owned_is events own more = ap (take (length own)) (drop-append_seam events (own ++ more)) ∙ take-append_seam own more
 
 -- the answer of a line, in the whole list of events
-here : (events own more : List Event) (l : ScriptLine) (left : List ScriptLine) (others : List Answer) (reply : Reply)
-    → IsAnswerTo events l.call l.moment reply own → AloneFrom ((events ++ own) ++ more) (length (events ++ own)) left others
-    → AloneFrom (events ++ (own ++ more)) (length events) (l ∷ left) (answer_at events own reply ∷ others)
-here events own more l left others reply answers h = (
-  refl,
-  omega (arith, length-append events (own ++ more), length-append own more),
-  subst (λ (before : List Event). IsAnswerTo before l.call l.moment reply (take (length own) (drop (length events) (events ++ (own ++ more))))) (sym (take-append_seam events (own ++ more)))
-      (subst (λ (mine : List Event). IsAnswerTo events l.call l.moment reply mine) (sym (owned_is events own more)) answers),
-  subst (λ (n : ℕ). AloneFrom (events ++ (own ++ more)) n left others) (length-append events own)
+here : (events own more : List Event) (l : ScriptLine) (left : List ScriptLine) (others : List Answer) (a : Answer)
+    → a.front ≡ length events → a.events ≡ length own → IsAnswerTo events l.call l.moment a.reply own
+    → AloneFrom ((events ++ own) ++ more) (length (events ++ own)) left others
+    → AloneFrom (events ++ (own ++ more)) (length events) (l ∷ left) (a ∷ others)
+here events own more l left others a front count answers h = (
+  front,
+  rw (front, count) (omega (arith, length-append events (own ++ more), length-append own more)),
+  rw (front, count, take-append_seam events (own ++ more), owned_is events own more) answers,
+  subst (λ (n : ℕ). AloneFrom (events ++ (own ++ more)) n left others) (length-append events own ∙ ap (λ (n : ℕ). n + length own) (sym front) ∙ ap (λ (n : ℕ). a.front + n) (sym count))
       (subst (λ (all : List Event). AloneFrom all (length (events ++ own)) left others) (append_assoc events own more) h),
 )
 
 -- one more line is answered
-grown : (lines left : List ScriptLine) (events own : List Event) (l : ScriptLine) (takens : List TakenLine) (taken : Taken) (reply : Reply)
-    → Continues lines events (l ∷ left) takens → IsAnswerTo events l.call l.moment reply own
-    → ((more : List Event) → line_text l.line (length events) (length own) (without_volumes reply) ≡ taken_text (events ++ (own ++ more)) l.line (length events) taken)
-    → Continues lines (events ++ own) left (takens ++ taken_at events l taken ∷ [])
-grown lines left events own l takens taken reply c answers line_is = record {
-  answers = c.answers ++ answer_at events own reply ∷ [];
+grown : (lines left : List ScriptLine) (events : List Event) (l : ScriptLine) (answers : List Answer) (a : Answer) (own : List Event)
+    → Continues lines events (l ∷ left) answers
+    → a.front ≡ length events → a.events ≡ length own → IsAnswerTo events (built_line l).call l.moment a.reply own
+    → Continues lines (events ++ own) left (answers ++ a ∷ [])
+grown lines left events l answers a own c front count reply = record {
   first = (c.first.0 ++ own, ap (λ (all : List Event). all ++ own) c.first.1 ∙ append_assoc first_events c.first.0 own);
   on = λ more others h.
-      subst (λ (all : List Event). AloneFrom all 1 lines ((c.answers ++ answer_at events own reply ∷ []) ++ others)) (sym (append_assoc events own more))
-      (subst (λ (given : List Answer). AloneFrom (events ++ (own ++ more)) 1 lines given) (sym (append_assoc c.answers (answer_at events own reply ∷ []) others))
-      (c.on (own ++ more) (answer_at events own reply ∷ others) (here events own more l left others reply answers h)));
-  shown = λ more others.
-      ap (λ (given : List Answer). flat_map reply_line (zip lines given)) (append_assoc c.answers (answer_at events own reply ∷ []) others)
-      ∙ c.shown (own ++ more) (answer_at events own reply ∷ others)
-      ∙ ap (λ (text : List ℕ). flat_map (taken_line (events ++ (own ++ more))) takens ++ (text ++ flat_map reply_line (zip left others))) (line_is more)
-      ∙ sym (append_assoc (flat_map (taken_line (events ++ (own ++ more))) takens) (taken_line (events ++ (own ++ more)) (taken_at events l taken)) (flat_map reply_line (zip left others)))
-      ∙ ap (λ (text : List ℕ). (flat_map (taken_line (events ++ (own ++ more))) takens ++ text) ++ flat_map reply_line (zip left others)) (sym (append-nil (taken_line (events ++ (own ++ more)) (taken_at events l taken))))
-      ∙ ap (λ (text : List ℕ). text ++ flat_map reply_line (zip left others)) (sym (flat_map-append (taken_line (events ++ (own ++ more))) takens (taken_at events l taken ∷ [])))
-      ∙ ap (λ (all : List Event). flat_map (taken_line all) (takens ++ taken_at events l taken ∷ []) ++ flat_map reply_line (zip left others)) (sym (append_assoc events own more));
+      subst (λ (all : List Event). AloneFrom all 1 (map built_line lines) ((answers ++ a ∷ []) ++ others)) (sym (append_assoc events own more))
+      (subst (λ (given : List Answer). AloneFrom (events ++ (own ++ more)) 1 (map built_line lines) given) (sym (append_assoc answers (a ∷ []) others))
+      (c.on (own ++ more) (a ∷ others) (here events own more (built_line l) (map built_line left) others a front count reply h)));
 }
 
--- the event that a call appended stands at its front
-at_front : (events more : List Event) (event : Event) → slice_get (events ++ (event ∷ more)) (length events) ≡ Some event
-at_front [] more event = refl
-at_front (e ∷ events) more event = at_front events more event
-
 -- a step of the loop
-pub step : (lines left : List ScriptLine) (events new : List Event) (l : ScriptLine) (takens : List TakenLine) (taken : Taken)
-    → Continues lines events (l ∷ left) takens → Takes events l.call l.moment taken new
-    → Continues lines new left (takens ++ taken_at events l taken ∷ [])
-step lines left events new l takens Appended c t =
-    subst (λ (all : List Event). Continues lines all left (takens ++ taken_at events l Appended ∷ [])) (sym t.appended)
-    (grown lines left events (Logged t.ledger t.entry ∷ []) l takens Appended t.reply c (inl t.is_outcome)
-    (λ more. ap (line_text l.line (length events) 1) t.shown ∙ sym (ap (entry_line l.line (length events)) (at_front events more (Logged t.ledger t.entry)))))
-step lines left events new l takens (Refused x) c t =
-    subst (λ (all : List Event). Continues lines all left (takens ++ taken_at events l (Refused x) ∷ [])) (append-nil events ∙ sym t.unchanged)
-    (grown lines left events [] l takens (Refused x) (refused x) c (refusal_is t.is_outcome) (λ more. refl))
-  where
-    refusal_is : ((refused x, []) ≡ outcome events l.call l.moment) ⊎ (x ≡ OutOfMemory) → IsAnswerTo events l.call l.moment (refused x) []
-    refusal_is h = elim h [ inl e ↦ inl e | inr e ↦ inr (ap refused e, refl) ]
+step : (lines left : List ScriptLine) (events new : List Event) (l : ScriptLine) (answers : List Answer) (a : Answer)
+    → Continues lines events (l ∷ left) answers → Answers events l.call l.moment a new → Continues lines new left (answers ++ a ∷ [])
+step lines left events new l answers a c h =
+    subst (λ (all : List Event). Continues lines all left (answers ++ a ∷ [])) (sym h.added) (grown lines left events l answers a h.own c h.front h.count h.reply)
 
 -- before the first line
 pub start : (lines : List ScriptLine) (events : List Event) → events ≡ first_events → Continues lines events lines []
 start lines events e = subst (λ (all : List Event). Continues lines all lines []) (sym e) (record {
-  answers = [];
   first = ([], refl);
   on = λ more others h. h;
-  shown = λ more others. refl;
 })
 
 -- after the last line
-pub finish : (lines : List ScriptLine) (events : List Event) (takens : List TakenLine) → Continues lines events [] takens → RunsTo events lines takens
-finish lines events takens c = record {
-  answers = c.answers;
-  alone = record {
-    first = c.first;
-    «from» = subst (λ (all : List Event). AloneFrom all 1 lines c.answers) (append-nil events)
-        (subst (λ (given : List Answer). AloneFrom (events ++ []) 1 lines given) (append-nil c.answers) (c.on [] [] (sym (ap length (append-nil events)))));
-  };
-  shown = sym (subst (λ (all : List Event). flat_map reply_line (zip lines c.answers) ≡ flat_map (taken_line all) takens) (append-nil events)
-      (ap (λ (given : List Answer). flat_map reply_line (zip lines given)) (sym (append-nil c.answers)) ∙ c.shown [] [] ∙ append-nil (flat_map (taken_line (events ++ [])) takens)));
+finish : (lines : List ScriptLine) (events : List Event) (answers : List Answer) → Continues lines events [] answers → AreAnswered events lines answers
+finish lines events answers c = record {
+  first = c.first;
+  «from» = subst (λ (all : List Event). AloneFrom all 1 (map built_line lines) answers) (append-nil events)
+      (subst (λ (given : List Answer). AloneFrom (events ++ []) 1 (map built_line lines) given) (append-nil answers) (c.on [] [] (sym (ap length (append-nil events)))));
 }
 
 -- a step of the loop, at a place of the lines
-pub step_at : (lines : List ScriptLine) (i : ℕ) (l : ScriptLine) (events seen new : List Event) (takens after : List TakenLine) (taken : Taken)
-    → Continues lines events (drop i lines) takens → i < length lines → l ≡ get_or lines i l → seen ≡ events
-    → Takes events l.call l.moment taken new → after ≡ takens ++ record { line = l.line; front = length seen; taken = taken } ∷ []
-    → Continues lines new (drop (i + 1) lines) after
-step_at lines i l events seen new takens after taken c within is seen_is takes after_is =
-    subst (λ (ts : List TakenLine). Continues lines new (drop (i + 1) lines) ts)
-    (sym (after_is ∙ ap (λ (s : List Event). takens ++ record { line = l.line; front = length s; taken = taken } ∷ []) seen_is))
-    (step lines (drop (i + 1) lines) events new l takens taken
-    (subst (λ (ls : List ScriptLine). Continues lines events ls takens) (drop_more lines i l within ∙ ap (λ (y : ScriptLine). y ∷ drop (i + 1) lines) (sym is)) c) takes)
+pub step_at : (lines : List ScriptLine) (i : ℕ) (l : ScriptLine) (events new : List Event) (answers after : List Answer) (a : Answer)
+    → Continues lines events (drop i lines) answers → i < length lines → l ≡ get_or lines i l
+    → Answers events l.call l.moment a new → after ≡ answers ++ a ∷ [] → Continues lines new (drop (i + 1) lines) after
+step_at lines i l events new answers after a c within is h after_is =
+    subst (λ (given : List Answer). Continues lines new (drop (i + 1) lines) given) (sym after_is)
+    (step lines (drop (i + 1) lines) events new l answers a
+    (subst (λ (ls : List ScriptLine). Continues lines events ls answers) (drop_more lines i l within ∙ ap (λ (y : ScriptLine). y ∷ drop (i + 1) lines) (sym is)) c) h)
 
 -- past the last place
-pub finish_at : (lines : List ScriptLine) (i : ℕ) (events : List Event) (takens : List TakenLine)
-    → Continues lines events (drop i lines) takens → length lines ≤ i → RunsTo events lines takens
-finish_at lines i events takens c past =
-    finish lines events takens (subst (λ (ls : List ScriptLine). Continues lines events ls takens) (drop_of_length-le lines past) c)
+pub finish_at : (lines : List ScriptLine) (i : ℕ) (events : List Event) (answers : List Answer)
+    → Continues lines events (drop i lines) answers → length lines ≤ i → AreAnswered events lines answers
+finish_at lines i events answers c past =
+    finish lines events answers (subst (λ (ls : List ScriptLine). Continues lines events ls answers) (drop_of_length-le lines past) c)
 
 -- what is written is the output of a history
-pub output_of : (lines : List ScriptLine) (events seen : List Event) (takens shown : List TakenLine) → RunsTo events lines takens
-    → seen ≡ events → shown ≡ takens → IsOutputOf lines (taken_output seen shown)
-output_of lines events seen takens shown r seen_is shown_is = record {
+pub output_of : (lines : List ScriptLine) (events seen : List Event) (answers shown : List Answer) → AreAnswered events lines answers
+    → seen ≡ events → shown ≡ answers → IsOutputOf lines (script_output seen lines shown)
+output_of lines events seen answers shown alone seen_is shown_is = record {
   events = events;
-  answers = r.answers;
-  alone = r.alone;
-  output_is = ap (λ (s : List Event). taken_output s shown) seen_is ∙ ap (λ (ts : List TakenLine). taken_output events ts) shown_is ∙ ap (λ (text : List ℕ). text ++ event_lines events) r.shown;
+  answers = answers;
+  alone = alone;
+  output_is = ap (λ (s : List Event). script_output s lines shown) seen_is ∙ ap (λ (given : List Answer). script_output events lines given) shown_is;
 }

@@ -1,26 +1,55 @@
--- The lines of a script.
-use Rattle.std.specs.Prelude.{◌≡◌, ℕ, Bool, true, false, List, [], ◌∷◌}
-use Rattle.std.specs.List.{filter, enumerate_from, AllZip}
-use Rattle.std.specs.Str.Lines.{lines}
-use Rattle.lg_batch.specs.Stage.{IsCallOf}
+-- The lines of a script, where some requests aren't read yet: they are calls that are refused as not built.
+use Rattle.std.specs.Prelude.{◌≡◌, ◌⊎◌, ℕ, ℤ, MatchBool, List, [], ◌∷◌, Option, Ok, codes}
+use Rattle.lg_json.specs.Tree.{Tree, Members}
+use Rattle.lg_json.specs.Tree.Tree.{members}
+use Rattle.lg_types.specs.declared.calls.Call.TheVariants.{Unreadable}
+use Rattle.lg_types.specs.declared.refusals.Reason.TheVariants.{Kind}
+use Rattle.lg_types.specs.declared.refusals.Refusal.TheVariants.{NotBuilt}
 use Rattle.lg_views.specs.declared.lines.ScriptLine.{ScriptLine}
+use Rattle.lg_views.specs.Answers.{Answer, known, ◌>>=◌}
+use Rattle.lg_views.specs.Checked.{Shows}
+use Rattle.lg_views.specs.Script.{LineContent, content, IsCallIn, IsLineFault, NowIn, bad_member, text_member, number_member, key_member, line_of, script_lines}
+use Rattle.lg_views.specs.Values.{under}
+use Rattle.lg_batch.specs.Unread.{is_not_read}
 
-abbrev pub has_bytes : ℕ × List ℕ → Bool
-has_bytes (n, []) = false
-has_bytes (n, b ∷ bs) = true
+-- the call of a line, with its moment, its caller and its phase
+abbrev pub CallIn : ℤ → ℕ → ℕ → List ℕ → List ℕ → Option (List ℕ) → Option Tree → Answer LineContent → Type 0
+CallIn moment caller phase method target key value r =
+    MatchBool (is_not_read method target) (r ≡ Ok (content moment caller phase (Unreadable NotBuilt))) (IsCallIn moment caller phase method target key value r)
 
--- the lines of a text with their numbers, without those that have no bytes: cut at newlines, with a carriage return
--- before a newline dropped
-abbrev pub numbered : ℕ → List ℕ → List (ℕ × List ℕ)
-numbered first bytes = filter has_bytes (enumerate_from first (lines bytes))
+-- the members in their order, and the value of the body; a phase isn't below that of an earlier line that could be read
+abbrev pub ContentWith : ℕ → Members → Option Tree → Answer LineContent → Type 0
+ContentWith lowest ms body =
+    known (text_member (codes "now") (under (codes "now") ms)) >>= (λ now.
+    NowIn now >>= (λ moment.
+    known (number_member (codes "caller") 0 63 (under (codes "caller") ms)) >>= (λ caller.
+    known (number_member (codes "phase") lowest 999999 (under (codes "phase") ms)) >>= (λ phase.
+    known (text_member (codes "method") (under (codes "method") ms)) >>= (λ method.
+    known (text_member (codes "path") (under (codes "path") ms)) >>= (λ target.
+    known (key_member (under (codes "key") ms)) >>= (λ key.
+    CallIn moment caller phase method target key body)))))))
 
--- a script's line of this number and these bytes
-pub record IsLine (place : ℕ × List ℕ) (l : ScriptLine) : Type 0 where
-  pub line : l.line ≡ place.0
-  pub caller : l.caller ≡ 0
-  pub phase : l.phase ≡ 0
-  pub call : IsCallOf place.1 l.moment l.call
+abbrev pub ContentIn : ℕ → Members → Answer LineContent → Type 0
+ContentIn lowest ms = ContentWith lowest ms (under (codes "body") ms)
 
--- the lines of a script's bytes: each line that has bytes, by its number from 1 on
+abbrev pub ContentBy : ℕ → Tree → Answer LineContent → Type 0
+ContentBy lowest (members ms) = ContentIn lowest ms
+ContentBy lowest t = known (bad_member [] Kind)
+
+abbrev pub LineAnswer : ℕ → List ℕ → Answer LineContent → Type 0
+LineAnswer lowest bytes r = ((t : Tree) × Shows bytes t × ContentBy lowest t r) ⊎ IsLineFault bytes r
+
+-- the line of these bytes with this number, after one of a phase
+abbrev pub IsLine : ℕ → ℕ × List ℕ → ScriptLine → Type 0
+IsLine phase place l = (r : Answer LineContent) × LineAnswer phase place.1 r × (l ≡ line_of phase place.0 r)
+
+-- the lines after one of a phase
+abbrev pub AreLinesAfter : ℕ → List (ℕ × List ℕ) → List ScriptLine → Type 0
+AreLinesAfter phase [] [] = Unit {0}
+AreLinesAfter phase (p ∷ ps) (l ∷ ls) = IsLine phase p l × AreLinesAfter l.phase ps ls
+AreLinesAfter phase [] (l ∷ ls) = ⊥
+AreLinesAfter phase (p ∷ ps) [] = ⊥
+
+-- the lines of a script's bytes
 abbrev pub AreLines : List ℕ → List ScriptLine → Type 0
-AreLines bytes ls = AllZip IsLine (numbered 1 bytes) ls
+AreLines bytes ls = AreLinesAfter 0 (script_lines bytes) ls

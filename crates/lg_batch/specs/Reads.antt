@@ -1,26 +1,48 @@
 -- What the readers of a line's parts answer.
-use Rattle.std.specs.Prelude.{◌≡◌, ℕ, List, [], ◌∷◌, ◌++◌, Option, MatchOption}
-use Rattle.std.specs.List.{AllZip, filter}
-use Rattle.lg_types.specs.declared.records.Posting.{Posting}
+use Rattle.std.specs.Prelude.{◌≡◌, ℕ, MatchBool, List, [], ◌∷◌, ◌++◌, Option, Some, None, Result, Ok, Err}
+use Rattle.std.specs.Borrow.{Bor}
+use Rattle.lg_codec.specs.declared.stop.CodecStop.{CodecStop}
+use Rattle.lg_codec.specs.declared.stop.CodecStop.TheVariants.{Refused, NoMemory}
+use Rattle.lg_json.specs.Tree.{Tree}
+use Rattle.lg_types.specs.declared.calls.Call.{Call}
+use Rattle.lg_types.specs.declared.calls.Call.TheVariants.{Unreadable}
+use Rattle.lg_types.specs.declared.refusals.Refusal.{Refusal}
+use Rattle.lg_types.specs.declared.refusals.Refusal.TheVariants.{NotBuilt}
 use Rattle.lg_views.specs.declared.lines.ScriptLine.{ScriptLine}
-use Rattle.lg_batch.specs.declared.stage.Creation.{Creation}
-use Rattle.lg_batch.specs.Requests.{IsInGrammar}
-use Rattle.lg_batch.specs.Stage.{Asked}
-use Rattle.lg_batch.specs.Lines.{IsLine, has_bytes}
+use Rattle.lg_views.specs.Answers.{Answer}
+use Rattle.lg_views.specs.Requests.{Body, IsRequest}
+use Rattle.lg_views.specs.Script as script
+use Rattle.lg_batch.specs.declared.content.LineContent.{LineContent}
+use Rattle.lg_batch.specs.Lines.{IsLine}
+use Rattle.lg_batch.specs.Unread.{is_not_read}
 
-abbrev pub asked_view : Creation → Asked
-asked_view c = record { moment = c.moment; timestamp = c.timestamp; postings = c.postings.items }
+-- what a call answers, seen by `seen`, is an answer of the reading; nothing is said where memory is wanting
+abbrev pub AnswersAs : {A B : Type 0} → (B → A) → (Answer A → Type 0) → Result B CodecStop → Type 0
+AnswersAs seen reading (Ok b) = reading (Ok (seen b))
+AnswersAs seen reading (Err (Refused refusal)) = reading (Err refusal)
+AnswersAs seen reading (Err NoMemory) = Unit {0}
 
--- the bytes are a name of the grammar, and there is none where they aren't
-abbrev pub IsNameOf : (List ℕ → Type 0) → List ℕ → Option (List ℕ) → Type 0
-IsNameOf Names bytes found = MatchOption found (¬ (Names bytes)) (λ name. (name ≡ bytes) × Names bytes)
+pub record ReadsAs {A B : Type 0} (seen : B → A) (reading : Answer A → Type 0) (result : Result B CodecStop) : Type 0 where
+  pub answers : AnswersAs seen reading result
 
--- the posting itself, where its parts are of their grammars
-abbrev pub IsPostingOf : Posting → Option Posting → Type 0
-IsPostingOf p found = MatchOption found (¬ (IsInGrammar p)) (λ q. (q ≡ p) × IsInGrammar p)
+-- bytes that are lent
+abbrev pub lent_bytes : Bor (List ℕ) → List ℕ
+lent_bytes b = b.now
 
--- the line of this number and these bytes stands at the end, where it has bytes
-pub record Appends (place : ℕ × List ℕ) (old new : List ScriptLine) : Type 0 where
-  pub added : List ScriptLine
-  pub joined : new ≡ old ++ added
-  pub is_line : AllZip IsLine (filter has_bytes (place ∷ [])) added
+abbrev pub content_seen : LineContent → script.LineContent
+content_seen c = script.content c.moment c.caller c.phase c.call
+
+-- the call of a line's request
+abbrev pub IsCallOf : List ℕ → List ℕ → Option (List ℕ) → Option Tree → Call → Type 0
+IsCallOf method target key value c =
+    MatchBool (is_not_read method target) (c ≡ Unreadable NotBuilt) ((body : Body) × script.IsBodyOf method target value body × IsRequest method target key body c)
+
+-- the refusal of a fault, or want of memory
+abbrev pub stop_of : Option Refusal → CodecStop
+stop_of None = NoMemory
+stop_of (Some refusal) = Refused refusal
+
+-- the line of this number and these bytes stands at the end, where it has bytes, and the next phase is no earlier than its own
+abbrev pub Appends : ℕ → ℕ → List ℕ → List ScriptLine → List ScriptLine → ℕ → Type 0
+Appends phase number [] old new after = (new ≡ old) × (after ≡ phase)
+Appends phase number (b ∷ bs) old new after = (l : ScriptLine) × IsLine phase (number, b ∷ bs) l × (new ≡ old ++ l ∷ []) × (after ≡ l.phase)

@@ -1,24 +1,32 @@
 //! Writing what came of a script: a line for each reply, then a line for each event.
 
-ghost use Rattle.std.specs.Prelude.{◌≡◌, [], Some, decimal, slice_get};
-ghost use Rattle.std.specs.List.{flat_map};
+ghost use Rattle.std.specs.Prelude.{◌≡◌, [], length, slice_get};
+ghost use Rattle.std.specs.List.{flat_map, zip};
 ghost use Rattle.lg_base.specs.Feeding.{Feeds};
 ghost use Rattle.lg_base.specs.Waiting.{waiting};
 ghost use Rattle.lg_batch.specs.Buffered.{WritesThrough};
-ghost use Rattle.lg_views.specs.Replies.{refused};
-ghost use Rattle.lg_batch.specs.Running.{entry_reply};
 ghost use Rattle.lg_batch.specs.LineParts.{line_part_text};
-ghost use Rattle.lg_views.specs.ReplyTexts.{status_of};
-ghost use Rattle.lg_views.specs.Output.{line_text, event_line, event_lines};
-ghost use Rattle.lg_batch.specs.TakenTexts.{entry_line, taken_line, taken_output};
+ghost use Rattle.lg_batch.specs.Runs.{line_at};
+ghost use Rattle.lg_types.specs.CallTexts.{truth_text};
+ghost use Rattle.lg_views.specs.Output.{answer_line, event_line, event_lines, script_output};
 
 use crate::line_parts::LinePart;
-use crate::reply_texts::{feed_entry_body, feed_refusal, refusal_status};
-use crate::taken::Taken;
-use crate::taken_lines::TakenLine;
 use lg_base::{BufferedFeed, Feed, OutputBuffer, Sink, Stop};
+use lg_book::Book;
+use lg_codec::{reply_text, status_of};
 use lg_containers::{Canonical, feed_all};
-use lg_types::{Entry, EntryBody, Event, Part, Refusal, event_text};
+use lg_types::{Event, Part, event_text};
+use lg_views::{Answer, ScriptLine};
+
+fn feed_truth<F: Feed>(truth: bool, to: &mut F) -> Result<(), Stop>
+    ensures { Feeds F.Feed to.old to.new (truth_text truth) result }
+{
+    if truth {
+        to.piece(b"true")
+    } else {
+        to.piece(b"false")
+    }
+}
 
 impl<'a> Canonical for LinePart<'a> {
     ghost text = { line_part_text };
@@ -26,117 +34,43 @@ impl<'a> Canonical for LinePart<'a> {
     fn feed_to<F: Feed>(&self, to: &mut F) -> Result<(), Stop> {
         match self {
             LinePart::Base(part) => part.feed_to(to),
-            LinePart::EntryStatus(entry) => feed_entry_status(entry, to),
-            LinePart::EntryBody(entry) => feed_entry_body(entry, to),
-            LinePart::RefusalStatus(refusal) => {
-                Part::Number(refusal_status(refusal)).feed_to(to)
-            }
-            LinePart::RefusalBody(refusal) => feed_refusal(refusal, to),
+            LinePart::Truth(truth) => feed_truth(*truth, to),
+            LinePart::Body(reply) => reply_text(reply, to),
         }
     }
 }
 
-/// Feeds the status of the reply to the call that appended the entry.
-fn feed_entry_status<F: Feed>(entry: &Entry, to: &mut F) -> Result<(), Stop>
-    ensures { Feeds F.Feed to.old to.new (decimal (status_of (entry_reply entry.now).content)) result }
+/// Feeds the line of an answer.
+fn feed_answer<F: Feed>(line: &ScriptLine, answer: &Answer, to: &mut F) -> Result<(), Stop>
+    ensures { Feeds F.Feed to.old to.new (answer_line (line.now, answer.now)) result }
 {
-    match &entry.body {
-        EntryBody::NewTransaction { .. } => Part::Number(200).feed_to(to),
-        EntryBody::SetMetadata { .. } => Part::Number(204).feed_to(to),
-        EntryBody::Reverted { .. } => Part::Number(201).feed_to(to),
-        EntryBody::DeleteMetadata { .. } => Part::Number(204).feed_to(to),
-    }
-}
-
-/// Feeds the line of the reply that shows the entry.
-fn feed_entry_line<F: Feed>(line: u64, front: u64, entry: &Entry, to: &mut F) -> Result<(), Stop>
-    ensures { Feeds F.Feed to.old to.new (line_text line front 1 (entry_reply entry.now)) result }
-{
+    let status = status_of(&answer.reply);
     feed_all(
         &[
             LinePart::Base(Part::Plain(b"{\"line\":")),
-            LinePart::Base(Part::Number(line)),
+            LinePart::Base(Part::Number(line.line)),
             LinePart::Base(Part::Plain(b",\"front\":")),
-            LinePart::Base(Part::Number(front)),
+            LinePart::Base(Part::Number(answer.front)),
             LinePart::Base(Part::Plain(b",\"events\":")),
-            LinePart::Base(Part::Number(1)),
-            LinePart::Base(Part::Plain(b",\"hit\":false,\"status\":")),
-            LinePart::EntryStatus(entry),
+            LinePart::Base(Part::Number(answer.events)),
+            LinePart::Base(Part::Plain(b",\"hit\":")),
+            LinePart::Truth(answer.reply.hit),
+            LinePart::Base(Part::Plain(b",\"status\":")),
+            LinePart::Base(Part::Number(status as u64)),
             LinePart::Base(Part::Plain(b",\"body\":")),
-            LinePart::EntryBody(entry),
+            LinePart::Body(&answer.reply),
             LinePart::Base(Part::Plain(b"}\n")),
         ],
         to,
     )
 }
 
-/// Feeds the line of a refusal.
-fn feed_refusal_line<F: Feed>(
-    line: u64,
-    front: u64,
-    refusal: &Refusal,
-    to: &mut F,
-) -> Result<(), Stop>
-    ensures { Feeds F.Feed to.old to.new (line_text line front 0 (refused refusal.now)) result }
+/// Feeds the lines of the answers.
+fn feed_answers<F: Feed>(lines: &[ScriptLine], answers: &[Answer], to: &mut F) -> Result<(), Stop>
+    ensures { Feeds F.Feed to.old to.new (flat_map answer_line (zip lines.now answers.now)) result }
 {
-    feed_all(
-        &[
-            LinePart::Base(Part::Plain(b"{\"line\":")),
-            LinePart::Base(Part::Number(line)),
-            LinePart::Base(Part::Plain(b",\"front\":")),
-            LinePart::Base(Part::Number(front)),
-            LinePart::Base(Part::Plain(b",\"events\":")),
-            LinePart::Base(Part::Number(0)),
-            LinePart::Base(Part::Plain(b",\"hit\":false,\"status\":")),
-            LinePart::RefusalStatus(refusal),
-            LinePart::Base(Part::Plain(b",\"body\":")),
-            LinePart::RefusalBody(refusal),
-            LinePart::Base(Part::Plain(b"}\n")),
-        ],
-        to,
-    )
-}
-
-/// Feeds the line of the reply that shows an event's entry, and nothing for an event without one.
-fn feed_logged<F: Feed>(line: u64, front: u64, event: &Event, to: &mut F) -> Result<(), Stop>
-    ensures { Feeds F.Feed to.old to.new (entry_line line front (Some event.now)) result }
-{
-    match event {
-        Event::Made(_) => to.piece(b""),
-        Event::Logged { ledger: _, entry } => feed_entry_line(line, front, entry, to),
-    }
-}
-
-/// The same of the event at the front; nothing where there is none.
-fn feed_event_reply<F: Feed>(
-    line: u64,
-    front: u64,
-    events: &[Event],
-    to: &mut F,
-) -> Result<(), Stop>
-    ensures { Feeds F.Feed to.old to.new (entry_line line front (slice_get events.now front)) result }
-{
-    match events.get(front as usize) {
-        None => to.piece(b""),
-        Some(event) => feed_logged(line, front, event, to),
-    }
-}
-
-fn feed_taken<F: Feed>(events: &[Event], taken: &TakenLine, to: &mut F) -> Result<(), Stop>
-    ensures { Feeds F.Feed to.old to.new (taken_line events.now taken.now) result }
-{
-    match &taken.taken {
-        Taken::Appended => feed_event_reply(taken.line, taken.front, events, to),
-        Taken::Refused(refusal) => feed_refusal_line(taken.line, taken.front, refusal, to),
-    }
-}
-
-/// Feeds the lines of the replies.
-fn feed_replies<F: Feed>(events: &[Event], takens: &[TakenLine], to: &mut F) -> Result<(), Stop>
-    ensures { Feeds F.Feed to.old to.new (flat_map (taken_line events.now) takens.now) result }
-{
-    for taken in takens {
-        feed_taken(events, taken, to)?;
+    for (line, answer) in lines.iter().zip(answers) {
+        feed_answer(line, answer, to)?;
     }
     Ok(())
 }
@@ -148,47 +82,64 @@ fn feed_event<F: Feed>(place: u64, event: &Event, to: &mut F) -> Result<(), Stop
     to.piece(b"\n")
 }
 
-/// Feeds the lines of the events.
-fn feed_events<F: Feed>(events: &[Event], to: &mut F) -> Result<(), Stop>
-    ensures { Feeds F.Feed to.old to.new (event_lines events.now) result }
+/// Feeds the line of the event at the place, where there is one.
+fn feed_event_at<F: Feed>(book: &Book, place: u64, to: &mut F) -> Result<(), Stop>
+    ensures { Feeds F.Feed to.old to.new (line_at place (slice_get book.now.events place)) result }
 {
-    for (place, event) in events.iter().enumerate() {
-        feed_event(place as u64, event, to)?;
+    match book.event(place) {
+        Some(event) => feed_event(place, event, to),
+        None => to.piece(b""),
+    }
+}
+
+/// Feeds the lines of the events.
+fn feed_events<F: Feed>(book: &Book, to: &mut F) -> Result<(), Stop>
+    ensures { Feeds F.Feed to.old to.new (event_lines book.now.events) result }
+{
+    for place in 0..book.len() {
+        feed_event_at(book, place, to)?;
     }
     Ok(())
 }
 
-fn feed_output<F: Feed>(events: &[Event], takens: &[TakenLine], to: &mut F) -> Result<(), Stop>
-    ensures { Feeds F.Feed to.old to.new (taken_output events.now takens.now) result }
+fn feed_output<F: Feed>(
+    book: &Book,
+    lines: &[ScriptLine],
+    answers: &[Answer],
+    to: &mut F,
+) -> Result<(), Stop>
+    ensures { Feeds F.Feed to.old to.new (script_output book.now.events lines.now answers.now) result }
 {
-    feed_replies(events, takens, to)?;
-    feed_events(events, to)
+    feed_answers(lines, answers, to)?;
+    feed_events(book, to)
 }
 
 /// Feeds the whole output to an empty buffer in front of a sink, and writes what waits.
 fn feed_and_flush<K: Sink>(
-    events: &[Event],
-    takens: &[TakenLine],
+    book: &Book,
+    lines: &[ScriptLine],
+    answers: &[Answer],
     feed: &mut BufferedFeed<'_, K>,
 ) -> Result<(), Stop>
     requires { waiting feed.old.buffer.now ≡ [] }
-    ensures written { WritesThrough K.Sink feed.old.sink.now feed.new.sink.now (taken_output events.now takens.now) result }
+    ensures written { WritesThrough K.Sink feed.old.sink.now feed.new.sink.now (script_output book.now.events lines.now answers.now) result }
     ensures same_reference { feed.new.sink.ghost_name ≡ feed.old.sink.ghost_name }
 {
-    feed_output(events, takens, feed)?;
+    feed_output(book, lines, answers, feed)?;
     feed.flush()
 }
 
 /// Writes the whole output through the buffer.
 pub fn write_output<K: Sink>(
     buffer: &mut OutputBuffer,
-    events: &[Event],
-    takens: &[TakenLine],
+    book: &Book,
+    lines: &[ScriptLine],
+    answers: &[Answer],
     out: &mut K,
 ) -> Result<(), Stop>
     requires { waiting buffer.old ≡ [] }
-    ensures { WritesThrough K.Sink out.old out.new (taken_output events.now takens.now) result }
+    ensures { WritesThrough K.Sink out.old out.new (script_output book.now.events lines.now answers.now) result }
 {
     let mut feed = BufferedFeed::new(out, buffer);
-    feed_and_flush(events, takens, &mut feed)
+    feed_and_flush(book, lines, answers, &mut feed)
 }

@@ -1,14 +1,14 @@
 //! Scripts.
 
-ghost use Rattle.std.specs.Prelude.{◌≡◌, length, All, IfOk, slice_get};
+ghost use Rattle.std.specs.Prelude.{◌≡◌, length, IfOk, slice_get};
 ghost use Rattle.std.specs.Option.{option_copied};
 ghost use Rattle.lg_batch.specs.Lines.{AreLines};
 ghost use Rattle.lg_batch.specs.Reads.{Appends};
-ghost use Rattle.lg_batch.specs.Running.{IsBuilt};
 
-use crate::stage::read_line;
+use crate::content::read_line;
 use crate::text_lines::cut_line;
 use lg_base::NoMemory;
+use lg_routes::ListReader;
 use lg_views::ScriptLine;
 use std::alloc::Global;
 use std::marker::Model;
@@ -20,26 +20,22 @@ pub struct Script {
 }
 
 impl Model for Script {
-    ghost use Rattle.std.specs.Prelude.{List, All};
+    ghost use Rattle.std.specs.Prelude.{List};
     ghost use Rattle.std.specs.Coded.{coded_list};
     ghost use Rattle.lg_views.specs.contracts.lines.ScriptLine as line;
     ghost use Rattle.lg_views.specs.declared.lines.ScriptLine.{ScriptLine};
-    ghost use Rattle.lg_batch.specs.Running.{IsBuilt};
 
     ghost Value = { List ScriptLine };
 
     ghost coded = { coded_list line.the_row.coded };
 
     ghost view = { λ s. s.lines.items };
-
-    ghost invariant = { λ s. All (λ l. IsBuilt l.call) s.lines.items };
 }
 
 impl Script {
     /// The lines.
     pub fn as_slice(&self) -> &[ScriptLine]
-        ensures value { result.now ≡ self.now }
-        ensures built { All (λ l. IsBuilt l.call) result.now }
+        ensures { result.now ≡ self.now }
     {
         self.lines.as_slice()
     }
@@ -59,44 +55,48 @@ impl Script {
     }
 }
 
-/// The script of these bytes: its lines are cut at newlines, a carriage return before a newline is dropped, and a
-/// line without bytes is counted and left out.
-pub fn read_script(alloc: Global, bytes: &[u8]) -> Result<Script, NoMemory>
+/// The script of these bytes: its lines are cut at newlines, a carriage return before a newline is dropped, and a line
+/// without bytes is counted and left out. A line that can't be read is a call that is refused.
+pub fn read_script<L: ListReader>(alloc: Global, bytes: &[u8]) -> Result<Script, NoMemory>
     ensures { IfOk result (λ s. AreLines bytes.now s) }
 {
-    match read_lines(alloc, bytes) {
+    match read_lines::<L>(alloc, bytes) {
         Ok(lines) => Ok(Script { lines }),
         Err(_) => Err(NoMemory),
     }
 }
 
-fn read_lines(alloc: Global, bytes: &[u8]) -> Result<Vec<ScriptLine>, NoMemory>
+fn read_lines<L: ListReader>(alloc: Global, bytes: &[u8]) -> Result<Vec<ScriptLine>, NoMemory>
     ensures { IfOk result (λ v. AreLines bytes.now v.items) }
 {
     let mut lines = Vec::new(alloc);
     let mut number: u64 = 1;
+    let mut phase = 0;
     let mut rest = bytes;
     'lines: while !rest.is_empty() {
         let (line, after) = cut_line(rest);
-        lines = append_line(alloc, lines, number, line)?;
+        phase = append_line::<L>(alloc, &mut lines, number, phase, line)?;
         number += 1;
         rest = after;
     }
     Ok(lines)
 }
 
-/// The lines with one more, where it has bytes.
-fn append_line(
+/// Appends the line, where it has bytes, and gives the phase that the next line follows.
+fn append_line<L: ListReader>(
     alloc: Global,
-    mut lines: Vec<ScriptLine>,
+    lines: &mut Vec<ScriptLine>,
     number: u64,
+    phase: u32,
     bytes: &[u8],
-) -> Result<Vec<ScriptLine>, NoMemory>
-    ensures { IfOk result (λ v. Appends (number, bytes.now) lines.items v.items) }
+) -> Result<u32, NoMemory>
+    ensures { IfOk result (Appends phase number bytes.now lines.old.items lines.new.items) }
 {
     if bytes.is_empty() {
-        return Ok(lines);
+        return Ok(phase);
     }
-    lines.push(read_line(alloc, number, bytes)?)?;
-    Ok(lines)
+    let line = read_line::<L>(alloc, number, phase, bytes)?;
+    let after = line.phase;
+    lines.push(line)?;
+    Ok(after)
 }

@@ -1,108 +1,159 @@
 //! Scripts in odd spellings, and lines that aren't read.
 
-use crate::{Script, ScriptLine, read_script};
-use lg_types::{Call, Posting, Refusal, Write};
+use crate::{NoLists, Script, ScriptLine, read_script};
+use lg_types::{Call, Reason, Refusal, Write};
+use std::alloc::Global;
 use std::test::Fail;
 
-/// What a line's call is, in a word.
-fn kind_of(line: &ScriptLine) -> &'static str {
-    match &line.call {
-        Call::Unreadable(Refusal::NoPostings) => "no postings",
-        Call::Unreadable(Refusal::NotBuilt) => "not built",
-        Call::Write {
-            write: Write::Create { .. },
-            ..
-        } => "creation",
+fn word_of(reason: Reason) -> &'static str {
+    match reason {
+        Reason::Missing => "missing",
+        Reason::Kind => "kind",
+        Reason::Form => "form",
+    }
+}
+
+/// The name of a member that lines have; `-` for the line itself.
+fn member_of(name: &[u8]) -> &'static str {
+    match name {
+        b"" => "-",
+        b"now" => "now",
+        b"caller" => "caller",
+        b"phase" => "phase",
+        b"method" => "method",
+        b"path" => "path",
+        b"key" => "key",
         _ => "another",
     }
+}
+
+fn told_refusal(alloc: Global, refusal: &Refusal) -> Result<String, Fail> {
+    match refusal {
+        Refusal::LineJson { place, .. } => Ok(format!(in alloc; "json {place}")?),
+        Refusal::LineMember { member, reason } => {
+            let member = member_of(member.bytes());
+            let reason = word_of(*reason);
+            Ok(format!(in alloc; "{member} {reason}")?)
+        }
+        Refusal::NoRoute => Ok(format!(in alloc; "no route")?),
+        Refusal::NotBuilt => Ok(format!(in alloc; "not built")?),
+        _ => Ok(format!(in alloc; "another refusal")?),
+    }
+}
+
+fn told_call(alloc: Global, call: &Call) -> Result<String, Fail> {
+    match call {
+        Call::Unreadable(refusal) => told_refusal(alloc, refusal),
+        Call::MakeLedger { .. } => Ok(format!(in alloc; "a ledger")?),
+        Call::Write {
+            key: Some(_),
+            write: Write::Create { .. },
+            ..
+        } => { Ok(format!(in alloc; "a creation with a key")?) }
+        Call::Write { .. } => Ok(format!(in alloc; "another write")?),
+        _ => Ok(format!(in alloc; "another call")?),
+    }
+}
+
+/// Number, caller, phase, moment and call of a line.
+fn told(alloc: Global, line: &ScriptLine) -> Result<String, Fail> {
+    let call = told_call(alloc, &line.call)?;
+    Ok(format!(in alloc;
+        "{} {} {} {} {call}",
+        line.line, line.caller, line.phase, line.moment
+    )?)
 }
 
 fn line_at(script: &Script, place: usize) -> Result<&ScriptLine, Fail> {
     Ok(script.get(place).ok_or("no such line")?)
 }
 
-fn first_posting(line: &ScriptLine) -> Result<&Posting, Fail> {
-    match &line.call {
-        Call::Write {
-            write: Write::Create { postings, .. },
-            ..
-        } => Ok(postings.get(0).ok_or("no posting")?),
-        _ => Err(Fail::from("no creation")),
-    }
+/// What the one line of a script says.
+fn told_line(alloc: Global, bytes: &[u8]) -> Result<String, Fail> {
+    let script = read_script::<NoLists>(alloc, bytes)?;
+    told(alloc, line_at(&script, 0)?)
 }
 
-fn timestamp_of(line: &ScriptLine) -> Option<i64> {
-    match &line.call {
-        Call::Write {
-            write: Write::Create { timestamp, .. },
-            ..
-        } => *timestamp,
-        _ => None,
-    }
-}
+/// Lines, and what is read of each.
+const LINES: [(&[u8], &str); 15] = [
+    (b"[]", "1 0 0 0 - kind"),
+    (b"{\"now\":\"2024\n", "1 0 0 0 json 12"),
+    (b"{}", "1 0 0 0 now missing"),
+    (b"{\"now\":1,\"caller\":\"\"}", "1 0 0 0 now kind"),
+    (b"{\"now\":\"1970-01-01T00:00:61Z\"}", "1 0 0 0 now form"),
+    (
+        b"{\"now\":\"1970-01-01T00:00:01Z\",\"caller\":\"1\"}",
+        "1 0 0 0 caller kind",
+    ),
+    (
+        b"{\"now\":\"1970-01-01T00:00:01Z\",\"caller\":64}",
+        "1 0 0 0 caller form",
+    ),
+    (
+        b"{\"now\":\"1970-01-01T00:00:01Z\",\"phase\":-1}",
+        "1 0 0 0 phase form",
+    ),
+    (
+        b"{\"now\":\"1970-01-01T00:00:01Z\",\"phase\":1000000}",
+        "1 0 0 0 phase form",
+    ),
+    (
+        b"{\"now\":\"1970-01-01T00:00:01Z\"}",
+        "1 0 0 0 method missing",
+    ),
+    (
+        b"{\"now\":\"1970-01-01T00:00:01Z\",\"method\":\"POST\",\"path\":[]}",
+        "1 0 0 0 path kind",
+    ),
+    (
+        b"{\"now\":\"1970-01-01T00:00:01Z\",\"method\":\"POST\",\"path\":\"/\",\"key\":1}",
+        "1 0 0 0 key kind",
+    ),
+    (
+        b"{\"now\":\"1970-01-01T00:00:01Z\",\"caller\":63,\"phase\":999999,\"method\":\"POST\",\"path\":\"/\"}",
+        "1 63 999999 1000000 no route",
+    ),
+    (
+        b"{\"now\":\"1970-01-01T00:00:01Z\",\"method\":\"GET\",\"path\":\"/v2/default/logs\"}",
+        "1 0 0 1000000 not built",
+    ),
+    (
+        b" { \"path\":\"\\/v2\\/default\\/transactions\", \"key\":\"k\",\"body\":{\"postings\":[{\"source\":\"a\",\"destination\":\"b\",\"amount\":1,\"asset\":\"X\"}]},\"\\u006eow\":\"1970-01-01t00:00:00.000001z\",\"method\":\"POS\\u0054\"}\t",
+        "1 0 0 1 a creation with a key",
+    ),
+];
 
 #[test]
-fn creation_is_read(rt: HostRuntime) -> Result<(), Fail> {
-    let script = read_script(
-        rt.alloc(),
-        b"{\"now\":\"2024-01-01T02:00:00+02:00\",\"method\":\"POST\",\"path\":\"/v2/default/transactions\",\"body\":{\"postings\":[{\"source\":\"world\",\"destination\":\"users:1\",\"amount\":100,\"asset\":\"USD/2\"}],\"timestamp\":\"2023-12-31T00:00:00.5Z\"}}\n",
-    )?;
-    assert_eq!(rt; script.len(), 1);
-    let line = line_at(&script, 0)?;
-    assert_eq!(rt; (line.line, line.caller, line.phase), (1, 0, 0));
-    assert_eq!(rt; line.moment, 1704067200000000);
-    assert_eq!(rt; timestamp_of(line), Some(1703980800500000));
-    let posting = first_posting(line)?;
-    assert_eq!(rt; posting.source.bytes(), b"world".as_slice());
-    assert_eq!(rt; posting.destination.bytes(), b"users:1".as_slice());
-    assert_eq!(rt; posting.asset.bytes(), b"USD/2".as_slice());
-    assert_eq!(rt; posting.amount.value(), 100);
-    Ok(())
-}
-
-#[test]
-fn members_stand_in_any_order_and_spelling(rt: HostRuntime) -> Result<(), Fail> {
-    let script = read_script(
-        rt.alloc(),
-        b" { \"body\" : { } , \"path\":\"\\/v2\\/default\\/transactions\", \"\\u006eow\":\"1970-01-01t00:00:00.000001z\",\"method\":\"POS\\u0054\"}\t",
-    )?;
-    let line = line_at(&script, 0)?;
-    assert_eq!(rt; kind_of(line), "no postings");
-    assert_eq!(rt; line.moment, 1);
+fn lines_are_read_or_refused_at_their_first_fault(rt: HostRuntime) -> Result<(), Fail> {
+    for (bytes, expected) in &LINES {
+        let line = told_line(rt.alloc(), bytes)?;
+        assert_eq!(rt; line.as_str(), *expected);
+    }
     Ok(())
 }
 
 #[test]
 fn lines_are_cut_and_counted(rt: HostRuntime) -> Result<(), Fail> {
-    let script = read_script(rt.alloc(), b"[]\r\n\r\n\n \n{}")?;
+    let script = read_script::<NoLists>(rt.alloc(), b"[]\r\n\r\n\n \n{}")?;
     assert_eq!(rt; script.len(), 3);
     assert_eq!(rt; line_at(&script, 0)?.line, 1);
     assert_eq!(rt; line_at(&script, 1)?.line, 4);
     assert_eq!(rt; line_at(&script, 2)?.line, 5);
-    assert_eq!(rt; read_script(rt.alloc(), b"")?.len(), 0);
     Ok(())
 }
 
 #[test]
-fn other_lines_are_not_built(rt: HostRuntime) -> Result<(), Fail> {
-    let script = read_script(
+fn phases_do_not_fall(rt: HostRuntime) -> Result<(), Fail> {
+    let script = read_script::<NoLists>(
         rt.alloc(),
-        b"[]
-{\"now\":\"2024
-{\"now\":\"1970-01-01T00:00:01Z\",\"method\":\"GET\",\"path\":\"/v2/default/transactions\",\"body\":{}}
-{\"now\":\"1970-01-01T00:00:01Z\",\"method\":\"POST\",\"path\":\"/v2/other/transactions\",\"body\":{}}
-{\"now\":\"1970-01-01T00:00:61Z\",\"method\":\"POST\",\"path\":\"/v2/default/transactions\",\"body\":{}}
-{\"now\":\"1970-01-01T00:00:01Z\",\"method\":\"POST\",\"path\":\"/v2/default/transactions\"}
-{\"now\":\"1970-01-01T00:00:01Z\",\"method\":\"POST\",\"path\":\"/v2/default/transactions\",\"body\":{},\"key\":\"k\"}
-{\"now\":\"1970-01-01T00:00:01Z\",\"method\":\"POST\",\"path\":\"/v2/default/transactions\",\"body\":{\"postings\":[{\"source\":\"a\",\"destination\":\"b\",\"amount\":-1,\"asset\":\"USD\"}]}}
-{\"now\":\"1970-01-01T00:00:01Z\",\"method\":\"POST\",\"path\":\"/v2/default/transactions\",\"body\":{\"postings\":[{\"source\":\"a\",\"destination\":\"b\",\"amount\":170141183460469231731687303715884105728,\"asset\":\"USD\"}]}}
-{\"now\":\"1970-01-01T00:00:01Z\",\"method\":\"POST\",\"path\":\"/v2/default/transactions\",\"body\":{\"postings\":[{\"source\":\"a\",\"destination\":\"b\",\"amount\":1,\"asset\":\"usd\"}]}}
+        b"{\"now\":\"1970-01-01T00:00:01Z\",\"phase\":2,\"method\":\"POST\",\"path\":\"/v2/l\"}
+[]
+{\"now\":\"1970-01-01T00:00:01Z\",\"phase\":1,\"method\":\"POST\",\"path\":\"/v2/l\"}
 ",
     )?;
-    assert_eq!(rt; script.len(), 10);
-    for line in script.as_slice() {
-        assert_eq!(rt; kind_of(line), "not built");
-        assert_eq!(rt; line.moment, 0);
-    }
+    let first = told(rt.alloc(), line_at(&script, 0)?)?;
+    assert_eq!(rt; first.as_str(), "1 0 2 1000000 a ledger");
+    let third = told(rt.alloc(), line_at(&script, 2)?)?;
+    assert_eq!(rt; third.as_str(), "3 0 2 0 phase form");
     Ok(())
 }

@@ -2,7 +2,7 @@ use Rattle.lg_base.proofs.Buffered.{nothing_waits}
 use Rattle.std.proofs.Common.{◌≡◌, [], length}
 use Rattle.std.specs.Prelude.{IfOk, Ok, Err}
 use Rattle.lg_base.specs.Waiting.{waiting}
-use Rattle.lg_batch.specs.TakenTexts.{taken_output}
+use Rattle.lg_views.specs.Output.{script_output}
 use Rattle.lg_batch.proofs.Buffering.{fed_whole, fed_in_part, flushed, stopped_early}
 use Rattle.lg_batch.proofs.output.feed_and_flush.Goals as goal
 
@@ -14,6 +14,6 @@ returns-in_err-feed_output-clause-written g c =
 
 pub returns-clause-written : goal.returns-clause-written
 returns-clause-written g c =
-    flushed g.K.Sink c.args.feed.now.sink.now c.feed_output.new.to.sink.now c.flush.new.self.sink.now (waiting c.feed_output.new.to.buffer.now) (waiting c.flush.new.self.buffer.now) (taken_output c.args.events.now c.args.takens.now) c.flush.result
+    flushed g.K.Sink c.args.feed.now.sink.now c.feed_output.new.to.sink.now c.flush.new.self.sink.now (waiting c.feed_output.new.to.buffer.now) (waiting c.flush.new.self.buffer.now) (script_output c.args.book.now.events c.args.lines.now c.args.answers.now) c.flush.result
     (fed_whole (λ f. g.K.Sink.written f.sink.now) (λ f. waiting f.buffer.now) _ _ _ _ _ _ c.in_ok-feed_output.ensures c.requires)
     c.in_ok-feed_output.ensures.cause.later c.flush.ensures.passed (elim c.flush.result as (λ r. IfOk r (λ _. length c.flush.new.self.buffer.now.bytes.items ≡ 0) → IfOk r (λ _. waiting c.flush.new.self.buffer.now ≡ [])) [ Ok u ↦ λ e. nothing_waits c.flush.new.self.buffer.now e | Err e ↦ λ _. tt ] c.flush.ensures.empty)

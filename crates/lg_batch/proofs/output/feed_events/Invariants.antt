@@ -7,4 +7,4 @@ use Rattle.lg_batch.proofs.output.feed_events.Given as goal
 
 abbrev pub invariant-loop-place : goal.invariant-loop-place
 invariant-loop-place g l =
-    Completes Stop g.F.Feed.fed g.F.Feed.stops g.F.Feed.lent l.fn.to l.to (flat_map event_line (enumerate_from 0 l.events)) (flat_map event_line (drop l.place (enumerate_from 0 l.events)))
+    Completes Stop g.F.Feed.fed g.F.Feed.stops g.F.Feed.lent l.fn.to l.to (flat_map event_line (enumerate_from 0 l.book.events)) (flat_map event_line (drop l.place (enumerate_from 0 l.book.events)))
