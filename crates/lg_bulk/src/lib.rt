@@ -1,6 +1,8 @@
-//! What becomes of a list of writes: its elements in their order, with one moment, each over the log that the earlier ones leave.
+//! What becomes of a call that may add events, and of a list of writes: its elements in their order, with one moment, each over
+//! the log that the earlier ones leave.
 #![tactic(auto)]
 
+mod calls;
 mod deciding;
 mod elements;
 mod gathered;
@@ -11,5 +13,6 @@ mod planning;
 mod results;
 mod volumes;
 
+pub use calls::decide;
 pub use deciding::decide_list;
 pub use lg_decide::{Decision, NoMemory};

@@ -12,13 +12,3 @@ as_built (Bulk ledger elements atomic go_on) = Bulk ledger elements atomic go_on
 as_built (Import ledger batch) = Unreadable NotBuilt
 as_built (Ledgers query) = Unreadable NotBuilt
 as_built (Read ledger read) = Unreadable NotBuilt
-
--- the calls that may add events: one that makes a ledger, a write, and a list of writes
-abbrev pub IsChange : Call → Type 0
-IsChange (Unreadable refusal) = ⊥
-IsChange (MakeLedger ledger bucket metadata) = Unit {0}
-IsChange (Write ledger key write) = Unit {0}
-IsChange (Bulk ledger elements atomic go_on) = Unit {0}
-IsChange (Import ledger batch) = ⊥
-IsChange (Ledgers query) = ⊥
-IsChange (Read ledger read) = ⊥

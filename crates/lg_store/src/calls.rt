@@ -8,19 +8,20 @@ ghost use Rattle.lg_types.specs.Log.{log};
 ghost use Rattle.lg_views.specs.Replies.{repeated, refused as refusal_reply};
 ghost use Rattle.lg_views.specs.Writes.{first_reply, up_to};
 ghost use Rattle.lg_book.specs.Reading.{find_entry};
-ghost use Rattle.lg_decide.specs.Decisions.{IsOutcome, IsDecided, known_in, known_to, named_ledger};
-ghost use Rattle.lg_store.specs.Built.{as_built, IsChange};
+ghost use Rattle.lg_decide.specs.Decisions.{IsOutcome, known_in, known_to, named_ledger};
+ghost use Rattle.lg_bulk.specs.Changes.{IsChange};
+ghost use Rattle.lg_store.specs.Built.{as_built};
 ghost use Rattle.lg_store.specs.Answering.{IsDone, IsDoneBy};
 
 use crate::done::Done;
 use crate::lent::AllShards;
 use lg_book::Book;
-use lg_bulk::decide_list;
-use lg_decide::{Decision, decide};
+use lg_bulk::decide;
+use lg_decide::Decision;
 use lg_plan::{Plan, carry_out, prepare_all};
 use lg_shard::Shard;
 use lg_turns::Change;
-use lg_types::{Call, Duplicate, Elements, LedgerName, NoMemory, Refusal, Transaction, Write};
+use lg_types::{Call, Duplicate, LedgerName, NoMemory, Refusal, Transaction, Write};
 use lg_views::{Content, Reply};
 use lg_weigh::weigh;
 use std::alloc::Global;
@@ -98,52 +99,6 @@ fn decide_change(
     now: i64,
 ) -> Result<Decision, NoMemory>
     requires kind { IsChange call.now }
-    requires shards { AreShards book.now.events [] shards.now }
-    ensures { IfOk result (λ decision. IsOutcome book.now.events call.now now decision) }
-{
-    match call {
-        Call::MakeLedger { .. } => decide_call(alloc, shards, book, call, now),
-        Call::Write { .. } => decide_call(alloc, shards, book, call, now),
-        Call::Bulk {
-            ledger,
-            elements,
-            atomic,
-            go_on,
-        } => decide_elements(alloc, shards, book, ledger, elements, *atomic, *go_on, now),
-        Call::Unreadable(_) => unreachable!(),
-        Call::Import { .. } => unreachable!(),
-        Call::Ledgers { .. } => unreachable!(),
-        Call::Read { .. } => unreachable!(),
-    }
-}
-
-/// What becomes of a list of writes.
-fn decide_elements(
-    alloc: Global,
-    shards: &[Shard],
-    book: &Book,
-    ledger: &LedgerName,
-    elements: &Elements,
-    atomic: bool,
-    go_on: bool,
-    now: i64,
-) -> Result<Decision, NoMemory>
-    requires shards { AreShards book.now.events [] shards.now }
-    ensures { IfOk result (λ decision. IsOutcome book.now.events (Call.Bulk ledger.now elements.now atomic go_on) now decision) }
-{
-    let lent = AllShards { shards };
-    decide_list(alloc, ledger, elements, atomic, go_on, now, &lent, book)
-}
-
-/// What becomes of a call that makes a ledger or writes to one.
-fn decide_call(
-    alloc: Global,
-    shards: &[Shard],
-    book: &Book,
-    call: &Call,
-    now: i64,
-) -> Result<Decision, NoMemory>
-    requires kind { IsDecided call.now }
     requires shards { AreShards book.now.events [] shards.now }
     ensures { IfOk result (λ decision. IsOutcome book.now.events call.now now decision) }
 {

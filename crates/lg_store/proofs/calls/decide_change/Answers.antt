@@ -3,7 +3,7 @@ use Rattle.std.specs.Prelude.{Option}
 use Rattle.lg_types.specs.declared.records.Transaction.{Transaction}
 use Rattle.lg_weigh.specs.Weighing.{weighed}
 use Rattle.lg_store.proofs.LentLists.{every_lent, every_part}
-use Rattle.lg_store.proofs.calls.decide_call.Goals as goal
+use Rattle.lg_store.proofs.calls.decide_change.Goals as goal
 
 pub weigh-requires : goal.weigh-requires
 weigh-requires c = every_lent c.args.book.now.events c.args.shards.now c.args.call.now _ c.requires.shards
