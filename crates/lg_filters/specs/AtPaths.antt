@@ -41,3 +41,7 @@ ListAt kind path t = ReadsBy (ShowsFilters kind t) (ListFault kind path t)
 
 abbrev pub ItemsAt : ListKind → Path → Trees → Answer (List Filter) → Type 0
 ItemsAt kind path ts = ReadsBy (λ filters. AreFiltersOf kind filters ts) (ItemsFault kind path 0 ts)
+
+abbrev pub LeafAt : ListKind → Path → List ℕ → Tree → Answer Filter → Type 0
+LeafAt kind path name over =
+    ReadsBy (λ filter. IsFilter kind filter (one name over)) (LeafFault kind path (one name over))

@@ -3,9 +3,9 @@
 
 mod fields;
 mod kinds;
-
+mod leaves;
 mod paths;
+mod reading;
+mod values;
 
-
-
-
+pub use reading::{filter_of_json, read_filter};
