@@ -160,6 +160,7 @@ module _ (kind : ListKind) (name inner : List ℕ) where
   to_presence t h = (t, h.0, h.1.0, rw (h.1.1.0, h.1.1.1) refl)
 
   of_presence : (t : List ℕ) → Presence (text t) → Present t
+  unfolding text_of
   of_presence t h =
       let same : t ≡ h.0 = ap text_of (same_value _ _ _ _ (same_value _ _ _ _ h.3)) in
       (h.1, (subst IsUtf8 (sym same) h.2, (same_name _ _ _ _ h.3, same_name _ _ _ _ (same_value _ _ _ _ h.3))))

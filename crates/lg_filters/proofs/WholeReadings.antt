@@ -1,6 +1,6 @@
 -- How the readings of a filter's parts make up the reading of the whole.
 use Rattle.std.proofs.Common.{◌≡◌, ℕ, ◌+◌, ◌<◌, ◌≤◌, Bool, true, false, List, [], ◌∷◌, ◌++◌, take, drop, length, length-append, get_or, take_all, drop_of_length-le, refl, sym, ap, subst, ◌∙◌, arith}
-use Rattle.std.specs.Prelude.{Option, Some, None, Result, Ok, Err, MatchBool, codes}
+use Rattle.std.specs.Prelude.{Option, Some, None, Result, Ok, Err, MatchBool, IsTrue, ◌↔◌, codes}
 use Rattle.std.specs.Result.{IsErrAnd}
 use Rattle.std.specs.Str.{bytes_eq}
 use Rattle.std.proofs.lemmas.Slice.Eq.{bytes_eq-Decides}
@@ -29,9 +29,9 @@ use Rattle.lg_filters.specs.AtPaths.{ReadsBy, FilterAt, OperatorFault, OperatorA
 use Rattle.lg_filters.proofs.Faults.{items_fault}
 use Rattle.lg_filters.proofs.Rows.{both_is, either_is, not_is}
 
-at_false : (b : Bool) {P Q : Type 0} → b ≡ false → Q → MatchBool b P Q
-at_false true e q = cc
-at_false false e q = q
+at_false : (P : Type 0) {Q : Type 0} (b : Bool) → b ≡ false → Q → MatchBool b P Q
+at_false P true e q = absurd (let f : true ≡ false = e in cc)
+at_false P false e q = q
 
 not_same : (a b : List ℕ) → ¬ (a ≡ b) → bytes_eq a b ≡ false
 not_same a b n = go (bytes_eq a b) (bytes_eq-Decides a b).0
@@ -40,12 +40,19 @@ not_same a b n = go (bytes_eq a b) (bytes_eq-Decides a b).0
     go true h = absurd (n (h refl))
     go false h = refl
 
+-- a name that was compared with another
+pub is_name : (r : Bool) (bytes name other : List ℕ) → bytes ≡ name → (IsTrue r ↔ (bytes ≡ other)) → r ≡ true → name ≡ other
+is_name r bytes name other e h t = sym e ∙ h.0 t
+
+pub is_no_name : (r : Bool) (bytes name other : List ℕ) → bytes ≡ name → (IsTrue r ↔ (bytes ≡ other)) → r ≡ false → ¬ (name ≡ other)
+is_no_name r bytes name other e h f q = let t : r ≡ true = h.1 (e ∙ q) in cc
+
 -- ---- objects
 
 -- an object of one member
 pub one_seen : (ms : List Member) (m : Member) → length ms ≡ 1 → m ≡ get_or ms 0 m → members_seen ms ≡ member m.name (tree m.value) no_member
 one_seen ms m e is =
-    members_at ms 0 m (omega arith) is ∙ ap (λ (l : List Member). member m.name (tree m.value) (members_seen l)) (drop_of_length-le ms (omega arith))
+    members_at ms 0 m (omega arith) is ∙ ap (λ (l : List Member). member m.name (tree m.value) (members_seen l)) (let short : length ms ≤ 1 = omega arith in drop_of_length-le ms short)
 
 pub object_read : (kind : ListKind) (path place : Path) (ms : List Member) (m : Member) (r : Result Filter CodecStop) → length ms ≡ 1 → m ≡ get_or ms 0 m → place ≡ below path m.name
     → Reads (OperatorAt kind place m.name (tree m.value)) r → Reads (FilterAt kind path (members (members_seen ms))) r
@@ -82,7 +89,7 @@ module _ (kind : ListKind) (path : Path) (name : List ℕ) (over : Tree) where
   leaf_fault_is : ¬ (name ≡ codes "$and") → ¬ (name ≡ codes "$or") → ¬ (name ≡ codes "$not") → (r : Option (List ℕ)) → LeafFault kind path (one name over) r → OperatorFault kind path name over r
   leaf_fault_is a b c r h =
       let l : is_of_list name ≡ false = rw (not_same name (codes "$and") a, not_same name (codes "$or") b) refl in
-      at_false (is_of_list name) l (at_false (bytes_eq name (codes "$not")) (not_same name (codes "$not") c) h)
+      at_false (ListFault kind path over r) (is_of_list name) l (at_false (FilterFault kind path over r) (bytes_eq name (codes "$not")) (not_same name (codes "$not") c) h)
 
   leaf_answers : ¬ (name ≡ codes "$and") → ¬ (name ≡ codes "$or") → ¬ (name ≡ codes "$not") → (x : Answer Filter) → LeafAt kind path name over x → OperatorAt kind path name over x
   leaf_answers a b c (Ok f) h = (h.0, leaf_fault_is a b c None h.1)
