@@ -21,9 +21,9 @@ matched false p q = q
 
 leaf_fault : (kind : ListKind) (path : Path) (name : List ℕ) (over : Tree) → HasFault (LeafFault kind path (one name over))
 leaf_fault kind path name over = elim (dec_leaf kind name over) [
-    | yes leaf ↦ (None, inl (leaf, refl))
-    | no n ↦ (Some (path_text path), inr (n, refl))
-  ]
+  | yes leaf ↦ (None, inl (leaf, refl))
+  | no n ↦ (Some (path_text path), inr (n, refl))
+]
 
 first_of : (first later : Option (List ℕ)) → HasFault (λ r. FirstOf first later r)
 first_of (Some path) later = (Some path, refl)

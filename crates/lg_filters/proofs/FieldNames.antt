@@ -20,9 +20,9 @@ balance_named bytes inner f e is u = subst (λ (g : Field). NamesField bytes g) 
 
 bracket_named : (bytes : List ℕ) (f : Field) → NamesBracketField bytes f → NamesField bytes f
 bracket_named bytes f h = elim h.1 [
-    | inl k ↦ metadata_named bytes h.0 f k.0 k.1.0 k.1.1
-    | inr k ↦ balance_named bytes h.0 f k.0 k.1.0 k.1.1
-  ]
+  | inl k ↦ metadata_named bytes h.0 f k.0 k.1.0 k.1.1
+  | inr k ↦ balance_named bytes h.0 f k.0 k.1.0 k.1.1
+]
 
 module _ (bytes : List ℕ) (no_text : (f : Field) → ¬ (NamesTextField bytes f)) (no_state : (f : Field) → ¬ (NamesStateField bytes f)) where
   unnamed : ((f : Field) → ¬ (NamesBracketField bytes f)) → (f : Field) → ¬ (NamesField bytes f)

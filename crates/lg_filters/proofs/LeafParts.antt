@@ -34,9 +34,9 @@ same_value a b s t e = ap value_in e
 -- an operator over what is no object of one member
 pub no_leaf : (kind : ListKind) (name : List ℕ) (over : Tree) → ((n : List ℕ) (v : Tree) → ¬ (over ≡ one n v)) → ¬ (IsLeaf kind (one name over))
 no_leaf kind name over h leaf = elim leaf [
-    | inl w ↦ h _ _ (same_value _ _ _ _ w.3.is)
-    | inr w ↦ h _ _ (same_value _ _ _ _ w.3)
-  ]
+  | inl w ↦ h _ _ (same_value _ _ _ _ w.3.is)
+  | inr w ↦ h _ _ (same_value _ _ _ _ w.3)
+]
 
 pub not_one : (ms : List Member) → ¬ (length ms ≡ 1) → (n : List ℕ) (v : Tree) → ¬ (members (members_seen ms) ≡ one n v)
 not_one [] h n v e = cc
@@ -46,16 +46,16 @@ not_one (m ∷ k ∷ ms) h n v e = cc
 -- a name that no operator has
 pub no_operator : (kind : ListKind) (name : List ℕ) (over : Tree) → ((op : Op) → ¬ (NamesOp name op)) → ¬ (name ≡ codes "$exists") → ¬ (IsLeaf kind (one name over))
 no_operator kind name over others none leaf = elim leaf [
-    | inl w ↦ others w.0 (sym (same_name _ _ _ _ w.3.is))
-    | inr w ↦ none (same_name _ _ _ _ w.3)
-  ]
+  | inl w ↦ others w.0 (sym (same_name _ _ _ _ w.3.is))
+  | inr w ↦ none (same_name _ _ _ _ w.3)
+]
 
 -- a name that no field has
 pub no_field : (kind : ListKind) (op : Op) (name : List ℕ) (t : Tree) → ((f : Field) → ¬ (NamesField name f)) → ¬ (IsLeaf kind (one (op_name op) (one name t)))
 no_field kind op name t none leaf = elim leaf [
-    | inl w ↦ none w.1 (sym (same_name _ _ _ _ (same_value _ _ _ _ w.3.is)), w.3.grammar)
-    | inr w ↦ compares_op op (same_name _ _ _ _ w.3)
-  ]
+  | inl w ↦ none w.1 (sym (same_name _ _ _ _ (same_value _ _ _ _ w.3.is)), w.3.grammar)
+  | inr w ↦ compares_op op (same_name _ _ _ _ w.3)
+]
 
 pub record Compares (kind : ListKind) (op : Op) (f : Field) (t : Tree) : Type 0 where
   pub compared : compares_field kind op f ≡ true
@@ -74,9 +74,9 @@ of_comparison kind op op' f f' v t w =
 
 pub of_leaf : (kind : ListKind) (op : Op) (f : Field) (t : Tree) → IsLeaf kind (one (op_name op) (one (field_name f) t)) → Compares kind op f t
 of_leaf kind op f t leaf = elim leaf [
-    | inl w ↦ of_comparison kind op w.0 f w.1 w.2 t w.3
-    | inr w ↦ absurd (compares_op op (same_name _ _ _ _ w.3))
-  ]
+  | inl w ↦ of_comparison kind op w.0 f w.1 w.2 t w.3
+  | inr w ↦ absurd (compares_op op (same_name _ _ _ _ w.3))
+]
 
 pub not_compared : (kind : ListKind) (op : Op) (f : Field) (t : Tree) → compares_field kind op f ≡ false → ¬ (IsLeaf kind (one (op_name op) (one (field_name f) t)))
 not_compared kind op f t e leaf = let h = (of_leaf kind op f t leaf).compared in cc

@@ -47,9 +47,9 @@ module _ (P : ℕ → Type 0) (d : (n : ℕ) → Dec (P n)) where
   one_more k (yes p) e = yes (record { number = k; less = omega arith; holds = p })
   one_more k (no n) (yes b) = yes (record { number = b.number; less = (let l = b.less in omega arith); holds = b.holds })
   one_more k (no n) (no m) = no (λ h. elim (ℕ_discrete h.number k) [
-      | yes e ↦ n (subst P e h.holds)
-      | no o ↦ m (record { number = h.number; less = (let l = h.less in omega (arith, o)); holds = h.holds })
-    ])
+    | yes e ↦ n (subst P e h.holds)
+    | no o ↦ m (record { number = h.number; less = (let l = h.less in omega (arith, o)); holds = h.holds })
+  ])
 
   dec_below : (k : ℕ) → Dec (Below P k)
   dec_below zero = no (λ h. let l = h.less in omega arith)
@@ -307,21 +307,23 @@ module _ (t : List ℕ) where
       let d = h.holds in
       let p = d.holds in
       let s = p.holds in
-      let e = s.holds in
-      (moment_of d.value s.value e.value, record {
-        date = h.first;
-        time = p.first;
-        rest = p.second;
-        number = d.value;
-        seconds = s.value;
-        added = e.value;
-        parts = h.parts ∙ ap (λ (l : List ℕ). h.first ++ l) p.parts;
-        date_is = d.is;
-        time_is = s.is;
-        end_is = e.is;
-        value = refl;
-        in_range = e.holds;
-      })
+      let e = s.holds in (
+        moment_of d.value s.value e.value,
+        record {
+          date = h.first;
+          time = p.first;
+          rest = p.second;
+          number = d.value;
+          seconds = s.value;
+          added = e.value;
+          parts = h.parts ∙ ap (λ (l : List ℕ). h.first ++ l) p.parts;
+          date_is = d.is;
+          time_is = s.is;
+          end_is = e.is;
+          value = refl;
+          in_range = e.holds;
+        },
+      )
 
   of_moment : ((moment : ℤ) × IsMoment t moment) → Parts t Whole
   of_moment h =

@@ -181,10 +181,8 @@ pub fn has_metadata(kind: ListKind) -> bool
     ensures { result ≡ spec.has_metadata kind }
 {
     match kind {
-        ListKind::Accounts
-        | ListKind::Transactions
-        | ListKind::Volumes
-        | ListKind::Aggregate => true,
+        ListKind::Accounts | ListKind::Transactions | ListKind::Volumes | ListKind::Aggregate =>
+            true,
         ListKind::Ledgers | ListKind::Logs => false,
     }
 }

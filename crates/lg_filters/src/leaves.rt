@@ -61,11 +61,7 @@ fn presence_of(alloc: Global, name: &Json) -> Result<Option<Filter>, NoMemory>
 }
 
 /// The test for a name of metadata, where the items of the list have metadata.
-fn presence(
-    alloc: Global,
-    kind: ListKind,
-    member: &Member,
-) -> Result<Option<Filter>, NoMemory>
+fn presence(alloc: Global, kind: ListKind, member: &Member) -> Result<Option<Filter>, NoMemory>
     ensures { IfOk result (ShowsLeaf kind (one (codes "$exists") (one member.now.name (tree member.now.value)))) }
 {
     if !has_metadata(kind) {

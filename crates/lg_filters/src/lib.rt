@@ -9,3 +9,6 @@ mod reading;
 mod values;
 
 pub use reading::{filter_of_json, read_filter};
+
+#[cfg(test)]
+mod tests;

@@ -142,10 +142,7 @@ pub fn filter_of_json(alloc: Global, kind: ListKind, value: &Json) -> Result<Fil
 {
     match value {
         Json::Null => Ok(Filter::All),
-        Json::Truth(_)
-        | Json::Whole(_)
-        | Json::Text(_)
-        | Json::List(_)
-        | Json::Members(_) => read_filter(alloc, kind, value),
+        Json::Truth(_) | Json::Whole(_) | Json::Text(_) | Json::List(_) | Json::Members(_) =>
+            read_filter(alloc, kind, value),
     }
 }

@@ -118,7 +118,11 @@ fn comparisons_of_accounts(rt: HostRuntime) {
 fn comparisons_of_transactions(rt: HostRuntime) {
     let alloc = rt.alloc();
     let kind = ListKind::Transactions;
-    let date = filter_in(alloc, kind, b"{\"$lte\":{\"timestamp\":\"1970-01-01T00:00:01Z\"}}");
+    let date = filter_in(
+        alloc,
+        kind,
+        b"{\"$lte\":{\"timestamp\":\"1970-01-01T00:00:01Z\"}}",
+    );
     assert!(rt; date.is_some_and(|filter| is_date_up_to(&filter, 1_000_000)));
     let reverted = filter_in(alloc, kind, b"{\"$match\":{\"reverted\":true}}");
     assert!(rt; reverted.is_some_and(|filter| is_reverted(&filter)));
@@ -128,13 +132,25 @@ fn comparisons_of_transactions(rt: HostRuntime) {
 fn every_field_of_each_list(rt: HostRuntime) {
     let alloc = rt.alloc();
     for (kind, text) in [
-        (ListKind::Transactions, b"{\"$match\":{\"reference\":\"r\"}}" as &[u8]),
+        (
+            ListKind::Transactions,
+            b"{\"$match\":{\"reference\":\"r\"}}" as &[u8],
+        ),
         (ListKind::Transactions, b"{\"$match\":{\"account\":\"a\"}}"),
         (ListKind::Transactions, b"{\"$match\":{\"source\":\"a\"}}"),
-        (ListKind::Transactions, b"{\"$match\":{\"destination\":\"a\"}}"),
+        (
+            ListKind::Transactions,
+            b"{\"$match\":{\"destination\":\"a\"}}",
+        ),
         (ListKind::Transactions, b"{\"$gte\":{\"id\":7}}"),
-        (ListKind::Transactions, b"{\"$match\":{\"metadata[]\":\"\"}}"),
-        (ListKind::Logs, b"{\"$gt\":{\"date\":\"1970-01-01T00:00:01Z\"}}"),
+        (
+            ListKind::Transactions,
+            b"{\"$match\":{\"metadata[]\":\"\"}}",
+        ),
+        (
+            ListKind::Logs,
+            b"{\"$gt\":{\"date\":\"1970-01-01T00:00:01Z\"}}",
+        ),
         (ListKind::Logs, b"{\"$match\":{\"id\":0}}"),
         (ListKind::Volumes, b"{\"$match\":{\"account\":\"a\"}}"),
         (ListKind::Volumes, b"{\"$match\":{\"address\":\"a\"}}"),
@@ -183,16 +199,44 @@ fn faults_of_the_top(rt: HostRuntime) {
 fn faults_of_operators(rt: HostRuntime) {
     let alloc = rt.alloc();
     for (kind, text, at) in [
-        (ListKind::Accounts, b"{\"$lt\":{\"address\":\"a\"}}" as &[u8], b"$lt" as &[u8]),
-        (ListKind::Logs, b"{\"$exists\":{\"metadata\":\"k\"}}", b"$exists"),
-        (ListKind::Accounts, b"{\"$exists\":{\"metadata\":7}}", b"$exists"),
-        (ListKind::Accounts, b"{\"$exists\":{\"balance\":\"k\"}}", b"$exists"),
+        (
+            ListKind::Accounts,
+            b"{\"$lt\":{\"address\":\"a\"}}" as &[u8],
+            b"$lt" as &[u8],
+        ),
+        (
+            ListKind::Logs,
+            b"{\"$exists\":{\"metadata\":\"k\"}}",
+            b"$exists",
+        ),
+        (
+            ListKind::Accounts,
+            b"{\"$exists\":{\"metadata\":7}}",
+            b"$exists",
+        ),
+        (
+            ListKind::Accounts,
+            b"{\"$exists\":{\"balance\":\"k\"}}",
+            b"$exists",
+        ),
         (ListKind::Ledgers, b"{\"$match\":{\"id\":1}}", b"$match"),
-        (ListKind::Accounts, b"{\"$like\":{\"address\":\"a\"}}", b"$like"),
+        (
+            ListKind::Accounts,
+            b"{\"$like\":{\"address\":\"a\"}}",
+            b"$like",
+        ),
         (ListKind::Accounts, b"{\"$and\":{}}", b"$and"),
         (ListKind::Accounts, b"{\"$not\":null}", b"$not"),
-        (ListKind::Aggregate, b"{\"$lt\":{\"balance[USD]\":1}}", b"$lt"),
-        (ListKind::Transactions, b"{\"$lt\":{\"reference\":\"a\"}}", b"$lt"),
+        (
+            ListKind::Aggregate,
+            b"{\"$lt\":{\"balance[USD]\":1}}",
+            b"$lt",
+        ),
+        (
+            ListKind::Transactions,
+            b"{\"$lt\":{\"reference\":\"a\"}}",
+            b"$lt",
+        ),
     ] {
         assert!(rt; is_bad(alloc, kind, text, at));
     }
@@ -202,15 +246,24 @@ fn faults_of_operators(rt: HostRuntime) {
 fn faults_of_fields_and_values(rt: HostRuntime) {
     let alloc = rt.alloc();
     for (kind, text) in [
-        (ListKind::Transactions, b"{\"$match\":{\"timestamp\":\"yesterday\"}}" as &[u8]),
+        (
+            ListKind::Transactions,
+            b"{\"$match\":{\"timestamp\":\"yesterday\"}}" as &[u8],
+        ),
         (ListKind::Transactions, b"{\"$match\":{\"timestamp\":7}}"),
         (ListKind::Transactions, b"{\"$match\":{\"id\":\"7\"}}"),
-        (ListKind::Transactions, b"{\"$match\":{\"reverted\":\"true\"}}"),
+        (
+            ListKind::Transactions,
+            b"{\"$match\":{\"reverted\":\"true\"}}",
+        ),
         (ListKind::Transactions, b"{\"$match\":{\"address\":\"a\"}}"),
         (ListKind::Accounts, b"{\"$match\":{\"balance[usd]\":1}}"),
         (ListKind::Accounts, b"{\"$match\":{\"metadata[k\":\"v\"}}"),
         (ListKind::Accounts, b"{\"$match\":{}}"),
-        (ListKind::Accounts, b"{\"$match\":{\"address\":\"a\",\"metadata[k]\":\"v\"}}"),
+        (
+            ListKind::Accounts,
+            b"{\"$match\":{\"address\":\"a\",\"metadata[k]\":\"v\"}}",
+        ),
         (ListKind::Accounts, b"{\"$match\":{\"address\":null}}"),
         (ListKind::Volumes, b"{\"$match\":{\"id\":1}}"),
     ] {

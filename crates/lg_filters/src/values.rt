@@ -67,11 +67,7 @@ fn truth_value(value: &Json) -> Option<Value>
 }
 
 /// The value that is compared with the field, where it is of the field's kind.
-pub fn read_value(
-    alloc: Global,
-    field: &Field,
-    value: &Json,
-) -> Result<Option<Value>, NoMemory>
+pub fn read_value(alloc: Global, field: &Field, value: &Json) -> Result<Option<Value>, NoMemory>
     ensures { IfOk result (IsRead (ShowsValue field.now (tree value.now))) }
 {
     match field {
