@@ -1,11 +1,11 @@
 -- Whether a value shows a comparison, or a test for a name of metadata, is decided.
-use Rattle.std.proofs.Common.{◌≡◌, ℕ, ◌⊎◌, inl, inr, List, [], ◌∷◌, Bool, true, false, refl, sym, ap, subst, ◌∙◌}
-use Rattle.std.specs.Prelude.{Option, Some, None, IsUtf8, codes, ℤ}
+use Rattle.std.proofs.Common.{◌≡◌, ℕ, List, [], Bool, true, false, refl, sym, ap, subst, ◌∙◌}
+use Rattle.std.specs.Prelude.{IsUtf8, codes, ℤ}
 use Rattle.std.specs.Str.{is_utf8}
 use Rattle.std.proofs.lemmas.Str.{IsUtf8-from_is_utf8, is_utf8-from_IsUtf8}
 use Rattle.std.proofs.Math.Decide.{map_dec}
 use Rattle.lg_containers.specs.AssetGrammar.{is_asset}
-use Rattle.lg_json.specs.Tree.{Tree, Trees, Members}
+use Rattle.lg_json.specs.Tree.{Tree}
 use Rattle.lg_json.specs.Tree.Tree.{null, truth, whole, part, text, list, members}
 use Rattle.lg_json.specs.Tree.Members.{no_member, member}
 use Rattle.lg_types.specs.declared.filters.ListKind.{ListKind}

@@ -1,14 +1,14 @@
 -- Each value has its first fault, or none.
-use Rattle.std.proofs.Common.{◌≡◌, ℕ, ◌+◌, ◌⊎◌, inl, inr, List, [], ◌∷◌, Bool, true, false, refl}
+use Rattle.std.proofs.Common.{ℕ, ◌+◌, inl, inr, List, Bool, true, false, refl}
 use Rattle.std.specs.Prelude.{Option, Some, None, MatchBool, codes}
 use Rattle.std.specs.Str.{bytes_eq}
-use Rattle.lg_json.specs.Tree.{Tree, Trees, Members}
+use Rattle.lg_json.specs.Tree.{Tree, Trees}
 use Rattle.lg_json.specs.Tree.Tree.{null, truth, whole, part, text, list, members}
 use Rattle.lg_json.specs.Tree.Trees.{none, item}
 use Rattle.lg_json.specs.Tree.Members.{no_member, member}
 use Rattle.lg_types.specs.declared.filters.ListKind.{ListKind}
 use Rattle.lg_views.specs.Paths.{Path, below, at_item, path_text}
-use Rattle.lg_views.specs.FilterReadings.{one, is_of_list, IsLeaf, LeafFault, FirstOf, FilterFault, ListFault, ItemsFault}
+use Rattle.lg_views.specs.FilterReadings.{one, is_of_list, LeafFault, FirstOf, FilterFault, ListFault, ItemsFault}
 use Rattle.lg_filters.proofs.DecidedLeaves.{dec_leaf}
 
 -- a fault of a kind

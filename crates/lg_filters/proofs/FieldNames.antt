@@ -1,5 +1,5 @@
 -- What the names of fields and of operators tell.
-use Rattle.std.proofs.Common.{◌≡◌, ◌≢◌, ℕ, ◌⊎◌, inl, inr, List, [], ◌∷◌, ◌++◌, Bool, true, false, cond, take, drop, refl, sym, ap, subst, ◌∙◌}
+use Rattle.std.proofs.Common.{◌≡◌, ◌≢◌, ℕ, inl, inr, List, [], ◌∷◌, ◌++◌, take, drop, refl, sym, ap, subst, ◌∙◌}
 use Rattle.std.specs.Prelude.{Option, Some, None, MatchOption, Result, Ok, Err, IfOk, IsUtf8, codes, if◌then◌else◌}
 use Rattle.std.specs.Borrow.{Bor}
 use Rattle.std.proofs.lemmas.List.{append_cancel_left}
@@ -10,7 +10,7 @@ use Rattle.lg_types.specs.declared.filters.Op.TheVariants.{Equal, Less, LessEqua
 use Rattle.lg_types.specs.declared.filters.Field.{Field}
 use Rattle.lg_types.specs.declared.filters.Field.TheVariants as field
 use Rattle.lg_views.specs.Tokens.{op_name, field_name, in_brackets}
-use Rattle.lg_filters.specs.Parts.{IsRead, NamesField, NamesTextField, NamesStateField, NamesBracketField, IsMetadataOf, IsBalanceOf}
+use Rattle.lg_filters.specs.Parts.{IsRead, NamesField, NamesTextField, NamesStateField, NamesBracketField}
 
 metadata_named : (bytes inner : List ℕ) (f : Field) → bytes ≡ in_brackets (codes "metadata") inner → f ≡ field.Metadata inner → IsUtf8 inner → NamesField bytes f
 metadata_named bytes inner f e is u = subst (λ (g : Field). NamesField bytes g) (sym is) (sym e, u)

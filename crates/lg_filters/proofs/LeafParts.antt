@@ -1,9 +1,9 @@
 -- What an operator over one field is, by its parts.
-use Rattle.std.proofs.Common.{◌≡◌, ℕ, ◌⊎◌, inl, inr, List, [], ◌∷◌, ◌++◌, length, Bool, true, false, refl, sym, ap, subst, ◌∙◌}
-use Rattle.std.specs.Prelude.{Option, Some, None, IsUtf8, codes}
-use Rattle.lg_json.specs.Tree.{Tree, Trees, Members}
-use Rattle.lg_json.specs.Tree.Tree.{null, truth, whole, part, text, list, members}
-use Rattle.lg_json.specs.Tree.Members.{no_member, member}
+use Rattle.std.proofs.Common.{◌≡◌, ℕ, inl, inr, List, [], ◌∷◌, length, true, false, refl, sym, ap}
+use Rattle.std.specs.Prelude.{codes}
+use Rattle.lg_json.specs.Tree.{Tree}
+use Rattle.lg_json.specs.Tree.Tree.{members}
+use Rattle.lg_json.specs.Tree.Members.{member}
 use Rattle.lg_json.specs.declared.json.Member.{Member}
 use Rattle.lg_types.specs.declared.filters.ListKind.{ListKind}
 use Rattle.lg_types.specs.declared.filters.Op.{Op}

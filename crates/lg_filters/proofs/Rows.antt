@@ -1,5 +1,5 @@
 -- Filters in a row.
-use Rattle.std.proofs.Common.{◌≡◌, ℕ, List, [], ◌∷◌, refl, sym, ap, subst, ◌∙◌}
+use Rattle.std.proofs.Common.{List, refl, sym, subst}
 use Rattle.std.specs.Prelude.{codes}
 use Rattle.lg_json.specs.Tree.{Tree, Trees}
 use Rattle.lg_json.specs.Tree.Tree.{list}

@@ -7,12 +7,10 @@ use Rattle.std.proofs.lemmas.Slice.Eq.{bytes_eq-Decides}
 use Rattle.lg_json.specs.declared.json.Json.{Json}
 use Rattle.lg_json.specs.declared.json.Member.{Member}
 use Rattle.lg_json.specs.Tree.{Tree, Trees, Members, tree}
-use Rattle.lg_json.specs.Tree.Tree.{list, members}
-use Rattle.lg_json.specs.Tree.Trees.{none, item}
+use Rattle.lg_json.specs.Tree.Tree.{members}
 use Rattle.lg_json.specs.Tree.Members.{no_member, member}
 use Rattle.lg_types.specs.declared.filters.ListKind.{ListKind}
 use Rattle.lg_types.specs.declared.filters.Filter.{Filter, Both, Either, Not}
-use Rattle.lg_types.specs.declared.refusals.Refusal.{Refusal}
 use Rattle.lg_types.specs.declared.refusals.Refusal.TheVariants.{BadFilter}
 use Rattle.lg_views.specs.Answers.{Answer}
 use Rattle.lg_views.specs.Paths.{Path, below, at_item, path_text}
@@ -25,7 +23,7 @@ use Rattle.lg_codec.specs.declared.stop.CodecStop.TheVariants.{Refused, NoMemory
 use Rattle.lg_codec.proofs.Readings.{err_is, same_reading, refused}
 use Rattle.lg_codec.proofs.Onward.{members_at, items_at}
 use Rattle.lg_codec.proofs.ElementLists.{up_to}
-use Rattle.lg_filters.specs.AtPaths.{ReadsBy, FilterAt, OperatorFault, OperatorAt, LeafAt, AreFiltersOf, ListAt, ItemsAt}
+use Rattle.lg_filters.specs.AtPaths.{FilterAt, OperatorFault, OperatorAt, LeafAt, AreFiltersOf, ListAt, ItemsAt}
 use Rattle.lg_filters.proofs.Faults.{items_fault}
 use Rattle.lg_filters.proofs.Rows.{both_is, either_is, not_is}
 

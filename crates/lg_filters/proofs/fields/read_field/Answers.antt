@@ -1,5 +1,3 @@
-use Rattle.std.specs.Prelude.{Result, Ok, Err, Option, IfOk}
-use Rattle.lg_types.specs.declared.filters.Field.{Field}
 use Rattle.lg_filters.proofs.FieldNames.{field_read_in}
 use Rattle.lg_filters.proofs.fields.read_field.Goals as goal
 

@@ -1,4 +1,4 @@
-use Rattle.std.proofs.Common.{◌≡◌, Bool, true, false, sym, ◌∙◌}
+use Rattle.std.proofs.Common.{sym, ◌∙◌}
 use Rattle.lg_filters.proofs.LeafParts.{not_compared}
 use Rattle.lg_filters.proofs.leaves.compared.Goals as goal
 

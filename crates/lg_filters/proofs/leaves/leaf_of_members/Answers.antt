@@ -1,4 +1,4 @@
-use Rattle.std.proofs.Common.{◌≡◌, ◌<◌, ◌≤◌, length, arith}
+use Rattle.std.proofs.Common.{arith}
 use Rattle.lg_json.specs.Tree as json
 use Rattle.lg_codec.specs.Seen.{members_seen}
 use Rattle.lg_filters.proofs.LeafParts.{no_leaf, not_one}

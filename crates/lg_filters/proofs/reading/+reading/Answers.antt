@@ -1,5 +1,5 @@
-use Rattle.std.proofs.Common.{◌≡◌, ◌≤◌, ◌<◌, ℕ, Bool, true, false, length, sym, ap, ◌∙◌, arith, subst}
-use Rattle.std.specs.Prelude.{List, ◌∷◌, Ok, Err, ◌+◌}
+use Rattle.std.proofs.Common.{◌≡◌, ℕ, length, sym, ap, ◌∙◌, arith, subst}
+use Rattle.std.specs.Prelude.{List, Ok, Err, ◌+◌}
 use Rattle.lg_json.specs.declared.json.Member.{Member}
 use Rattle.lg_json.specs.declared.json.Json.{Json}
 use Rattle.lg_json.specs.Tree.{tree}
