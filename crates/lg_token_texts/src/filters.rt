@@ -1,0 +1,78 @@
+//! Feeding filters.
+
+ghost use Rattle.std.specs.Prelude.{codes, ◌++◌};
+ghost use Rattle.std.specs.List.{flat_map};
+ghost use Rattle.lg_base.specs.Feeding.{Feeds};
+ghost use Rattle.lg_containers.specs.CanonicalTexts.{commas, list_text};
+ghost use Rattle.lg_views.specs.Tokens.{filter_text, one_member};
+
+use crate::comparisons::{feed_comparison, feed_existence, feed_opening};
+use lg_base::{Feed, Stop};
+use lg_types::Filter;
+
+/// Feeds a filter in canonical form.
+#[cycle(filter_texts)]
+pub fn feed_filter<F: Feed>(filter: &Filter, to: &mut F) -> Result<(), Stop>
+    ensures { Feeds F.Feed to.old to.new (filter_text filter.now) result }
+{
+    match filter {
+        Filter::All => to.piece(b"{}"),
+        Filter::Compare { op, field, value } => feed_comparison(*op, field, value, to),
+        Filter::Has(name) => feed_existence(name.bytes(), to),
+        Filter::Both(filters) => feed_list(b"$and", filters.as_slice(), to),
+        Filter::Either(filters) => feed_list(b"$or", filters.as_slice(), to),
+        Filter::Not(filter) => feed_denial(filter.get(), to),
+    }
+}
+
+/// Feeds that a filter doesn't hold.
+#[cycle(filter_texts)]
+fn feed_denial<F: Feed>(filter: &Filter, to: &mut F) -> Result<(), Stop>
+    ensures { Feeds F.Feed to.old to.new (one_member (codes "$not") (filter_text filter.now)) result }
+{
+    feed_opening(b"$not", to)?;
+    feed_filter(filter, to)?;
+    to.piece(b"}")
+}
+
+/// Feeds an operator over filters.
+#[cycle(filter_texts)]
+fn feed_list<F: Feed>(word: &[u8], filters: &[Filter], to: &mut F) -> Result<(), Stop>
+    ensures { Feeds F.Feed to.old to.new (one_member word.now (list_text filter_text filters.now)) result }
+{
+    feed_opening(word, to)?;
+    to.piece(b"[")?;
+    feed_with_commas(filters, to)?;
+    to.piece(b"]}")
+}
+
+#[cycle(filter_texts)]
+fn feed_with_commas<F: Feed>(filters: &[Filter], to: &mut F) -> Result<(), Stop>
+    ensures { Feeds F.Feed to.old to.new (commas filter_text filters.now) result }
+{
+    match filters {
+        [] => Ok(()),
+        [first, rest @ ..] => {
+            feed_filter(first, to)?;
+            feed_after_commas(rest, to)
+        }
+    }
+}
+
+#[cycle(filter_texts)]
+fn feed_after_commas<F: Feed>(filters: &[Filter], to: &mut F) -> Result<(), Stop>
+    ensures { Feeds F.Feed to.old to.new (flat_map (λ filter. codes "," ++ filter_text filter) filters.now) result }
+{
+    for filter in filters {
+        feed_after_comma(filter, to)?;
+    }
+    Ok(())
+}
+
+#[cycle(filter_texts)]
+fn feed_after_comma<F: Feed>(filter: &Filter, to: &mut F) -> Result<(), Stop>
+    ensures { Feeds F.Feed to.old to.new (codes "," ++ filter_text filter.now) result }
+{
+    to.piece(b",")?;
+    feed_filter(filter, to)
+}
