@@ -29,9 +29,9 @@ pub record IsSpelled (kind : ListKind) (filter : Filter) (room : ℕ) : Type 0 w
 abbrev pub FiltersSpelled : Type 0
 FiltersSpelled = (kind : ListKind) (filter : Filter) (room : ℕ) (t : Tree) → IsFilter kind filter t → Fits room t → IsSpelled kind filter room
 
--- a value shows one filter of a list at most
-abbrev pub ValuesShowOneFilter : Type 0
-ValuesShowOneFilter = (kind : ListKind) (t : Tree) (f g : Filter) → IsFilter kind f t → IsFilter kind g t → f ≡ g
+-- filters that one value shows have one text
+abbrev pub FiltersHaveOneText : Type 0
+FiltersHaveOneText = (kind : ListKind) (t : Tree) (f g : Filter) → IsFilter kind f t → IsFilter kind g t → filter_text f ≡ filter_text g
 
 -- ---- tokens
 

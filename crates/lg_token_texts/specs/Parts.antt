@@ -1,10 +1,10 @@
 -- The texts of the pieces that a token's text is made of.
-use Rattle.std.specs.Prelude.{ℕ, ℤ, Bool, List, [], ◌∷◌, ◌++◌, Option, Some, None, if◌then◌else◌, nat_eq, codes, decimal}
+use Rattle.std.specs.Prelude.{ℕ, Bool, true, false, List, [], ◌∷◌, ◌++◌, if◌then◌else◌, nat_eq, codes, decimal}
 use Rattle.std.specs.List.{concat, flat_map}
 use Rattle.lg_base.specs.Texts.{quoted, escaped}
 use Rattle.lg_types.specs.PartTexts.{part_text, optional_text}
 use Rattle.lg_types.specs.declared.filters.Filter.{Filter}
-use Rattle.lg_views.specs.Tokens.{field_name, value_text, after_text, expand_text, filter_member, pit_text, start_text, end_text}
+use Rattle.lg_views.specs.Tokens.{field_name, value_text, filter_text, after_text, expand_text, filter_member, pit_text, start_text, end_text}
 use Rattle.lg_token_texts.specs.declared.parts.TextPart.{TextPart}
 use Rattle.lg_token_texts.specs.declared.parts.TextPart.TheVariants.{Base, Quoted, Escaped}
 use Rattle.lg_token_texts.specs.declared.parts.ComparedPart.{ComparedPart}
@@ -21,6 +21,16 @@ abbrev pub compared_part_text : ComparedPart → List ℕ
 compared_part_text (ComparedText part) = text_part_text part
 compared_part_text (Field field) = quoted (field_name field.now)
 compared_part_text (Value value) = value_text value.now
+
+-- the comma before each filter but the first
+abbrev pub comma_unless : Bool → List ℕ
+comma_unless true = []
+comma_unless false = codes ","
+
+-- the texts of filters, each after its comma; the first of them may be the first of all
+abbrev pub parted : Bool → List Filter → List ℕ
+parted is_first [] = []
+parted is_first (f ∷ fs) = (comma_unless is_first ++ filter_text f) ++ parted false fs
 
 -- the name of an object's one member, as the object begins
 abbrev pub opening : List ℕ → List ℕ

@@ -4,14 +4,13 @@ ghost use Rattle.std.specs.Prelude.{codes, ◌++◌};
 ghost use Rattle.lg_base.specs.Feeding.{Feeds};
 ghost use Rattle.lg_base.specs.Texts.{quoted};
 ghost use Rattle.lg_types.specs.CallTexts.{truth_text};
-ghost use Rattle.lg_views.specs.Tokens.{field_name, in_brackets, value_text, one_member, op_name as name_of_op};
+ghost use Rattle.lg_views.specs.Tokens.{field_name, in_brackets, value_text, one_member};
 ghost use Rattle.lg_token_texts.specs.Parts.{text_part_text, compared_part_text, opening};
 
 use crate::parts::{ComparedPart, TextPart};
-use crate::words::op_name;
 use lg_base::{Feed, Stop, feed_escaped, feed_json_text, feed_number};
 use lg_containers::{Canonical, feed_all};
-use lg_types::{Field, Op, Part, Value};
+use lg_types::{Field, Part, Value};
 
 impl<'a> Canonical for TextPart<'a> {
     ghost text = { text_part_text };
@@ -57,7 +56,7 @@ fn feed_field<F: Feed>(field: &Field, to: &mut F) -> Result<(), Stop>
 }
 
 /// Feeds a word with a name in brackets after it, as a string.
-fn feed_in_brackets<F: Feed>(word: &[u8], name: &[u8], to: &mut F) -> Result<(), Stop>
+fn feed_in_brackets<'x, F: Feed>(word: &'x [u8], name: &'x [u8], to: &mut F) -> Result<(), Stop>
     ensures { Feeds F.Feed to.old to.new (quoted (in_brackets word.now name.now)) result }
 {
     feed_all(
@@ -105,7 +104,7 @@ pub fn feed_opening<F: Feed>(name: &[u8], to: &mut F) -> Result<(), Stop>
 }
 
 /// Feeds an object of a field with what it is compared with.
-fn feed_compared<F: Feed>(field: &Field, value: &Value, to: &mut F) -> Result<(), Stop>
+fn feed_compared<'x, F: Feed>(field: &'x Field, value: &'x Value, to: &mut F) -> Result<(), Stop>
     ensures { Feeds F.Feed to.old to.new (one_member (field_name field.now) (value_text value.now)) result }
 {
     feed_all(
@@ -120,16 +119,16 @@ fn feed_compared<F: Feed>(field: &Field, value: &Value, to: &mut F) -> Result<()
     )
 }
 
-/// Feeds a comparison.
-pub fn feed_comparison<F: Feed>(
-    op: Op,
-    field: &Field,
-    value: &Value,
+/// Feeds a comparison by the operator of this name.
+pub fn feed_comparison<'x, F: Feed>(
+    operator: &[u8],
+    field: &'x Field,
+    value: &'x Value,
     to: &mut F,
 ) -> Result<(), Stop>
-    ensures { Feeds F.Feed to.old to.new (one_member (name_of_op op) (one_member (field_name field.now) (value_text value.now))) result }
+    ensures { Feeds F.Feed to.old to.new (one_member operator.now (one_member (field_name field.now) (value_text value.now))) result }
 {
-    feed_opening(op_name(op), to)?;
+    feed_opening(operator, to)?;
     feed_compared(field, value, to)?;
     to.piece(b"}")
 }

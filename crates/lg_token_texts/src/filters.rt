@@ -1,12 +1,13 @@
 //! Feeding filters.
 
 ghost use Rattle.std.specs.Prelude.{codes, ◌++◌};
-ghost use Rattle.std.specs.List.{flat_map};
 ghost use Rattle.lg_base.specs.Feeding.{Feeds};
 ghost use Rattle.lg_containers.specs.CanonicalTexts.{commas, list_text};
+ghost use Rattle.lg_token_texts.specs.Parts.{comma_unless};
 ghost use Rattle.lg_views.specs.Tokens.{filter_text, one_member};
 
 use crate::comparisons::{feed_comparison, feed_existence, feed_opening};
+use crate::words::op_name;
 use lg_base::{Feed, Stop};
 use lg_types::Filter;
 
@@ -17,7 +18,7 @@ pub fn feed_filter<F: Feed>(filter: &Filter, to: &mut F) -> Result<(), Stop>
 {
     match filter {
         Filter::All => to.piece(b"{}"),
-        Filter::Compare { op, field, value } => feed_comparison(*op, field, value, to),
+        Filter::Compare { op, field, value } => feed_comparison(op_name(*op), field, value, to),
         Filter::Has(name) => feed_existence(name.bytes(), to),
         Filter::Both(filters) => feed_list(b"$and", filters.as_slice(), to),
         Filter::Either(filters) => feed_list(b"$or", filters.as_slice(), to),
@@ -42,37 +43,37 @@ fn feed_list<F: Feed>(word: &[u8], filters: &[Filter], to: &mut F) -> Result<(),
 {
     feed_opening(word, to)?;
     to.piece(b"[")?;
-    feed_with_commas(filters, to)?;
+    feed_filters(filters, to)?;
     to.piece(b"]}")
 }
 
+/// Feeds the filters, with commas between them.
 #[cycle(filter_texts)]
-fn feed_with_commas<F: Feed>(filters: &[Filter], to: &mut F) -> Result<(), Stop>
+fn feed_filters<F: Feed>(filters: &[Filter], to: &mut F) -> Result<(), Stop>
     ensures { Feeds F.Feed to.old to.new (commas filter_text filters.now) result }
 {
-    match filters {
-        [] => Ok(()),
-        [first, rest @ ..] => {
-            feed_filter(first, to)?;
-            feed_after_commas(rest, to)
-        }
-    }
-}
-
-#[cycle(filter_texts)]
-fn feed_after_commas<F: Feed>(filters: &[Filter], to: &mut F) -> Result<(), Stop>
-    ensures { Feeds F.Feed to.old to.new (flat_map (λ filter. codes "," ++ filter_text filter) filters.now) result }
-{
+    let mut is_first = true;
     for filter in filters {
-        feed_after_comma(filter, to)?;
+        feed_item(is_first, filter, to)?;
+        is_first = false;
     }
     Ok(())
 }
 
+/// Feeds a filter of a list, after a comma where it isn't the first.
 #[cycle(filter_texts)]
-fn feed_after_comma<F: Feed>(filter: &Filter, to: &mut F) -> Result<(), Stop>
-    ensures { Feeds F.Feed to.old to.new (codes "," ++ filter_text filter.now) result }
+fn feed_item<F: Feed>(is_first: bool, filter: &Filter, to: &mut F) -> Result<(), Stop>
+    ensures { Feeds F.Feed to.old to.new (comma_unless is_first ++ filter_text filter.now) result }
 {
-    to.piece(b",")?;
+    feed_comma(is_first, to)?;
     feed_filter(filter, to)
+}
+
+fn feed_comma<F: Feed>(is_first: bool, to: &mut F) -> Result<(), Stop>
+    ensures { Feeds F.Feed to.old to.new (comma_unless is_first) result }
+{
+    match is_first {
+        true => to.piece(b""),
+        false => to.piece(b","),
+    }
 }

@@ -1,6 +1,6 @@
 //! Laws of the definitions of tokens. Each function's contract is a law; there is nothing to run.
 
-ghost use Rattle.lg_token_texts.specs.Laws.{FiltersSpelled, ValuesShowOneFilter, TokensDecode, DatesReadBack};
+ghost use Rattle.lg_token_texts.specs.Laws.{FiltersSpelled, FiltersHaveOneText, TokensDecode, DatesReadBack};
 
 /// The text of a filter is a JSON text of a value that shows the filter and is within the limits, where any value
 /// within the limits shows it.
@@ -8,9 +8,9 @@ pub fn filters_are_spelled()
     ensures { FiltersSpelled }
 {}
 
-/// A value shows one filter of a list at most.
-pub fn values_show_one_filter()
-    ensures { ValuesShowOneFilter }
+/// Filters of a list that one value shows have one text.
+pub fn filters_have_one_text()
+    ensures { FiltersHaveOneText }
 {}
 
 /// The token of a query of a page is decoded to its text.

@@ -11,3 +11,6 @@ mod words;
 
 pub use lg_base::NoMemory;
 pub use tokens::token_of;
+
+#[cfg(test)]
+mod tests;

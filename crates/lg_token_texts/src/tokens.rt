@@ -13,10 +13,10 @@ use lg_types::{After, ListKind, Part, Query};
 use std::alloc::Global;
 
 /// Feeds the text of a query that goes on after the place.
-fn feed_token_text<F: Feed>(
+fn feed_token_text<'x, F: Feed>(
     kind: ListKind,
-    query: &Query,
-    after: &After,
+    query: &'x Query,
+    after: &'x After,
     to: &mut F,
 ) -> Result<(), Stop>
     ensures { Feeds F.Feed to.old to.new (token_text kind query.now after.now) result }
@@ -43,11 +43,11 @@ fn feed_token_text<F: Feed>(
 }
 
 /// The text of a query that goes on after the place, in memory.
-fn token_bytes(
+fn token_bytes<'x>(
     alloc: Global,
     kind: ListKind,
-    query: &Query,
-    after: &After,
+    query: &'x Query,
+    after: &'x After,
 ) -> Result<Vec<u8>, NoMemory>
     ensures { IfOk result (λ bytes. bytes.items ≡ token_text kind query.now after.now) }
 {
@@ -60,11 +60,11 @@ fn token_bytes(
 
 /// The token of the page that goes on after the place: the query in canonical form, in base64url without padding
 /// (RFC 4648, section 5). The query's own place isn't looked at. The one error is want of memory.
-pub fn token_of(
+pub fn token_of<'x>(
     alloc: Global,
     kind: ListKind,
-    query: &Query,
-    after: &After,
+    query: &'x Query,
+    after: &'x After,
 ) -> Result<Vec<u8>, NoMemory>
     ensures { IfOk result (λ written. written.items ≡ token kind query.now after.now) }
 {
