@@ -1,13 +1,15 @@
 -- The texts of filters in a list.
-use Rattle.std.proofs.Common.{◌≡◌, ℕ, ◌+◌, ◌<◌, Bool, true, false, List, [], ◌∷◌, ◌++◌, length, get_or, drop, refl, sym, ap, ◌∙◌}
+use Rattle.std.proofs.Common.{◌≡◌, ℕ, ◌+◌, ◌<◌, Bool, true, false, List, [], ◌∷◌, ◌++◌, length, get_or, drop, refl, sym, ap, ◌∙◌, true≢false}
 use Rattle.std.specs.Prelude.{codes}
-use Rattle.std.specs.List.{flat_map}
-use Rattle.std.proofs.lemmas.List.{drop_more}
+use Rattle.std.specs.List.{flat_map, concat}
+use Rattle.std.proofs.lemmas.List.{drop_more, append-nil}
 use mathlib.Core.Former.{Count}
 use Rattle.lg_containers.specs.CanonicalTexts.{commas, list_text}
-use Rattle.lg_types.specs.declared.filters.Filter.{Filter, Both, Either, Not, Both', Either', Not', Row_of-Filter, end_of-Filter, more_of-Filter, items-the_row-Filter, items_hidden-the_row-Filter-0}
-use Rattle.lg_views.specs.Tokens.{filter_text, filters_text, after_commas, one_member}
-use Rattle.lg_token_texts.specs.Parts.{comma_unless, parted}
+use Rattle.lg_types.specs.declared.filters.Filter.{Filter, All, Compare, Has, Both, Either, Not, Both', Either', Not', Row_of-Filter, end_of-Filter, more_of-Filter, items-the_row-Filter, items_hidden-the_row-Filter-0}
+use Rattle.lg_types.specs.declared.filters.Filter.TheBlock.{hidden-the_row-Filter-1}
+use denote.Hole.Carrier.{hidden}
+use Rattle.lg_views.specs.Tokens.{filter_text, filters_text, after_commas, filter_member, one_member}
+use Rattle.lg_token_texts.specs.Parts.{comma_unless, parted, is_all_items}
 
 -- ---- the filters that a row holds
 
@@ -33,6 +35,31 @@ pub either_text : (fs : List Filter) → filter_text (Either fs) ≡ one_member 
 either_text fs =
     let row = row_of (Either fs) in
     ap (λ (l : List ℕ). one_member (codes "$or") (91 ∷ (l ++ (93 ∷ [])))) (listed row.1 ∙ ap (commas filter_text) (items_hidden-the_row-Filter-0 fs))
+
+pub not_text : (f : Filter) → filter_text (Not f) ≡ one_member (codes "$not") (filter_text f)
+unfolding hidden-the_row-Filter-1 hidden
+not_text f = ap (one_member (codes "$not")) (append-nil (filter_text f))
+
+-- ---- the member with the filter
+
+pub no_member : (f : Filter) → is_all_items f ≡ true → [] ≡ filter_member f
+no_member All h = refl
+no_member (Compare op f v) h = absurd (true≢false (sym h))
+no_member (Has name) h = absurd (true≢false (sym h))
+no_member (Both' shape filters) h = absurd (true≢false (sym h))
+no_member (Either' shape filters) h = absurd (true≢false (sym h))
+no_member (Not' shape filters) h = absurd (true≢false (sym h))
+
+member : (f : Filter) → codes ",\"filter\":" ++ filter_text f ≡ concat (codes ",\"filter\":" ∷ filter_text f ∷ [])
+member f = ap (λ (l : List ℕ). codes ",\"filter\":" ++ l) (sym (append-nil (filter_text f)))
+
+pub with_member : (f : Filter) → is_all_items f ≡ false → codes ",\"filter\":" ++ filter_text f ≡ filter_member f
+with_member All h = absurd (true≢false h)
+with_member (Compare op f v) h = member (Compare op f v)
+with_member (Has name) h = member (Has name)
+with_member (Both' shape filters) h = member (Both' shape filters)
+with_member (Either' shape filters) h = member (Either' shape filters)
+with_member (Not' shape filters) h = member (Not' shape filters)
 
 -- ---- filters one after another
 

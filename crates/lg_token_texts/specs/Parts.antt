@@ -3,14 +3,14 @@ use Rattle.std.specs.Prelude.{ℕ, Bool, true, false, List, [], ◌∷◌, ◌++
 use Rattle.std.specs.List.{concat, flat_map}
 use Rattle.lg_base.specs.Texts.{quoted, escaped}
 use Rattle.lg_types.specs.PartTexts.{part_text, optional_text}
-use Rattle.lg_types.specs.declared.filters.Filter.{Filter}
-use Rattle.lg_views.specs.Tokens.{field_name, value_text, filter_text, after_text, expand_text, filter_member, pit_text, start_text, end_text}
+use Rattle.lg_types.specs.declared.filters.Filter.{Filter, All, Compare, Has, Both', Either', Not'}
+use Rattle.lg_views.specs.Tokens.{kind_name, field_name, value_text, filter_text, after_text, expand_text, filter_member, pit_text, start_text, end_text}
 use Rattle.lg_token_texts.specs.declared.parts.TextPart.{TextPart}
 use Rattle.lg_token_texts.specs.declared.parts.TextPart.TheVariants.{Base, Quoted, Escaped}
 use Rattle.lg_token_texts.specs.declared.parts.ComparedPart.{ComparedPart}
 use Rattle.lg_token_texts.specs.declared.parts.ComparedPart.TheVariants.{Text as ComparedText, Field, Value}
 use Rattle.lg_token_texts.specs.declared.parts.TokenPart.{TokenPart}
-use Rattle.lg_token_texts.specs.declared.parts.TokenPart.TheVariants.{Text, Pit, Start, End, ByInsertion, Group, Expand, Filter as FilterPart, After}
+use Rattle.lg_token_texts.specs.declared.parts.TokenPart.TheVariants.{Text, Kind, Pit, Start, End, ByInsertion, Group, Expand, Filter as FilterPart, After}
 
 abbrev pub text_part_text : TextPart → List ℕ
 text_part_text (Base part) = part_text part
@@ -42,8 +42,18 @@ by_insertion_text by_insertion = (if by_insertion then codes ",\"insertionDate\"
 abbrev pub group_text : ℕ → List ℕ
 group_text group = (if nat_eq group 0 then [] else concat (codes ",\"groupBy\":" ∷ decimal group ∷ []))
 
+-- the filter that all items pass, with which a token has no filter
+abbrev pub is_all_items : Filter → Bool
+is_all_items All = true
+is_all_items (Compare op f v) = false
+is_all_items (Has name) = false
+is_all_items (Both' shape filters) = false
+is_all_items (Either' shape filters) = false
+is_all_items (Not' shape filter) = false
+
 abbrev pub token_part_text : TokenPart → List ℕ
 token_part_text (Text part) = text_part_text part
+token_part_text (Kind kind) = quoted (kind_name kind)
 token_part_text (Pit date) = optional_text pit_text date.now
 token_part_text (Start date) = optional_text start_text date.now
 token_part_text (End date) = optional_text end_text date.now

@@ -1,7 +1,8 @@
 //! The pieces of a token's text.
 
 use lg_types::{
-    After as Place, Expand as Shown, Field as Compared, Filter as Wanted, Part, Value as Given,
+    After as Place, Expand as Shown, Field as Compared, Filter as Wanted, ListKind, Part,
+    Value as Given,
 };
 
 /// A piece of a text with strings in it.
@@ -28,6 +29,8 @@ pub enum ComparedPart<'a> {
 #[derive(Clone, Copy)]
 pub enum TokenPart<'a> {
     Text(TextPart<'a>),
+    /// The name of a kind of list, as a JSON string.
+    Kind(ListKind),
     /// The member with the date at which a list is looked at.
     Pit(&'a Option<i64>),
     /// The member with the earliest date.

@@ -1,15 +1,18 @@
 //! Feeding the members of a query.
 
+ghost use Rattle.std.specs.Prelude.{◌≡◌, ◌++◌, codes};
 ghost use Rattle.lg_base.specs.Feeding.{Feeds};
+ghost use Rattle.lg_base.specs.Texts.{quoted};
 ghost use Rattle.lg_types.specs.PartTexts.{optional_text};
-ghost use Rattle.lg_views.specs.Tokens.{pit_text, start_text, end_text, expand_text, filter_member, after_text};
-ghost use Rattle.lg_token_texts.specs.Parts.{token_part_text, by_insertion_text, group_text};
+ghost use Rattle.lg_views.specs.Tokens.{kind_name as name_of_kind, pit_text, start_text, end_text, expand_text, filter_text, filter_member, after_text};
+ghost use Rattle.lg_token_texts.specs.Parts.{token_part_text, by_insertion_text, group_text, is_all_items};
 
 use crate::filters::feed_filter;
 use crate::parts::{TextPart, TokenPart};
-use lg_base::{Feed, Stop};
+use crate::words::kind_name;
+use lg_base::{Feed, Stop, feed_json_text};
 use lg_containers::{Canonical, feed_all};
-use lg_types::{After, Expand, Filter, Part};
+use lg_types::{After, Expand, Filter, ListKind, Part};
 
 impl<'a> Canonical for TokenPart<'a> {
     ghost text = { token_part_text };
@@ -17,6 +20,7 @@ impl<'a> Canonical for TokenPart<'a> {
     fn feed_to<F: Feed>(&self, to: &mut F) -> Result<(), Stop> {
         match self {
             TokenPart::Text(part) => part.feed_to(to),
+            TokenPart::Kind(kind) => feed_kind(*kind, to),
             TokenPart::Pit(date) => feed_pit(date, to),
             TokenPart::Start(date) => feed_start(date, to),
             TokenPart::End(date) => feed_end(date, to),
@@ -27,6 +31,12 @@ impl<'a> Canonical for TokenPart<'a> {
             TokenPart::After(after) => feed_after(after, to),
         }
     }
+}
+
+fn feed_kind<F: Feed>(kind: ListKind, to: &mut F) -> Result<(), Stop>
+    ensures { Feeds F.Feed to.old to.new (quoted (name_of_kind kind)) result }
+{
+    feed_json_text(kind_name(kind), to)
 }
 
 fn feed_pit<F: Feed>(date: &Option<i64>, to: &mut F) -> Result<(), Stop>
@@ -94,17 +104,31 @@ fn feed_expand<F: Feed>(expand: Expand, to: &mut F) -> Result<(), Stop>
 fn feed_filter_member<F: Feed>(filter: &Filter, to: &mut F) -> Result<(), Stop>
     ensures { Feeds F.Feed to.old to.new (filter_member filter.now) result }
 {
-    match filter {
-        Filter::All => to.piece(b""),
-        Filter::Compare { .. }
-        | Filter::Has(_)
-        | Filter::Both(_)
-        | Filter::Either(_)
-        | Filter::Not(_) => {
-            to.piece(b",\"filter\":")?;
-            feed_filter(filter, to)
-        }
+    match is_all(filter) {
+        true => to.piece(b""),
+        false => feed_present_filter(filter, to),
     }
+}
+
+/// Whether it is the filter that all items pass.
+fn is_all(filter: &Filter) -> bool
+    ensures { result ≡ is_all_items filter.now }
+{
+    match filter {
+        Filter::All => true,
+        Filter::Compare { .. } => false,
+        Filter::Has(_) => false,
+        Filter::Both(_) => false,
+        Filter::Either(_) => false,
+        Filter::Not(_) => false,
+    }
+}
+
+fn feed_present_filter<F: Feed>(filter: &Filter, to: &mut F) -> Result<(), Stop>
+    ensures { Feeds F.Feed to.old to.new (codes ",\"filter\":" ++ filter_text filter.now) result }
+{
+    to.piece(b",\"filter\":")?;
+    feed_filter(filter, to)
 }
 
 /// Feeds a place in a list.

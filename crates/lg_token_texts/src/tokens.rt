@@ -5,7 +5,6 @@ ghost use Rattle.lg_base.specs.Feeding.{Feeds};
 ghost use Rattle.lg_views.specs.Tokens.{token_text, token};
 
 use crate::parts::{TextPart, TokenPart};
-use crate::words::kind_name;
 use base64::engine::general_purpose::URL_SAFE_NO_PAD;
 use lg_base::{ByteFeed, Feed, NoMemory, Stop};
 use lg_containers::feed_all;
@@ -24,7 +23,7 @@ fn feed_token_text<'x, F: Feed>(
     feed_all(
         &[
             TokenPart::Text(TextPart::Base(Part::Plain(b"{\"kind\":"))),
-            TokenPart::Text(TextPart::Quoted(kind_name(kind))),
+            TokenPart::Kind(kind),
             TokenPart::Text(TextPart::Base(Part::Plain(b",\"pageSize\":"))),
             TokenPart::Text(TextPart::Base(Part::Number(query.page_size as u64))),
             TokenPart::Pit(&query.pit),
