@@ -1,9 +1,8 @@
 -- The text of a whole number is a JSON number of it.
-use Rattle.std.proofs.Common.{◌≡◌, ℕ, suc, ◌+◌, ◌-◌, ◌*◌, ◌/◌, ◌%◌, ◌^◌, ◌<◌, ◌≤◌, true, List, [], ◌∷◌, ◌++◌, inl, inr, refl, sym, ap, ◌∙◌, arith}
+use Rattle.std.proofs.Common.{◌≡◌, ℕ, ◌+◌, ◌-◌, ◌*◌, ◌/◌, ◌%◌, ◌^◌, ◌<◌, ◌≤◌, true, List, [], ◌∷◌, ◌++◌, inr, refl, sym, ap, ◌∙◌, arith}
 use Rattle.std.specs.Prelude.{ℤ, pos, negsuc, decimal, neg_ℤ}
-use Rattle.std.proofs.lemmas.Bool.{cases_lt}
 use Rattle.std.proofs.lemmas.Fmt.{decimal_by_steps_wide}
-use Rattle.lg_json.specs.Grammar.{IsDigit, AreDigits, IsPositive, IsInt, IsWhole, InRange, number_from}
+use Rattle.lg_json.specs.Grammar.{IsDigit, AreDigits, IsPositive, IsWhole, InRange, number_from}
 use Rattle.lg_entry_lines.proofs.Numbers.{decimal_is_whole}
 use native.Mathlib.Numerals.{unary_clauses}
 use Rattle.lg_views.specs.Tokens.{whole_text}

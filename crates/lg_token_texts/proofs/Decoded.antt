@@ -1,15 +1,12 @@
 -- The token of a page is decoded to its text.
 use Rattle.std.proofs.Common.{◌≡◌, ℕ, ◌^◌, ◌<◌, ◌≤◌, List, [], ◌∷◌, ◌++◌, refl, sym, subst, arith}
-use Rattle.std.specs.Prelude.{ℤ, Bool, true, false, nat_eq, if◌then◌else◌, codes, decimal, Option, Some, None, Ok, IfSome}
+use Rattle.std.specs.Prelude.{ℤ, Bool, true, false, nat_eq, codes, decimal, Option, Some, None}
 use Rattle.std.specs.List.{concat}
 use Rattle.std.proofs.lemmas.Bool.{cond_both}
-use Rattle.base64.specs.GeneralPurpose.{decode_of}
+use Rattle.std.proofs.lemmas.List.Folds.{concat-append}
 use Rattle.base64.specs.Engines.{url_safe_no_pad}
 use Rattle.base64.proofs.EngineFacts.{decode_of-encode_of}
 use Rattle.lg_base.specs.Texts.{quoted}
-use Rattle.lg_json.specs.Grammar.{Fits}
-use Rattle.lg_json.specs.Tree.{Tree}
-use Rattle.lg_time.specs.Moment.{IsInMoments}
 use Rattle.lg_types.specs.PartTexts.{date_text, optional_text}
 use Rattle.lg_types.specs.declared.filters.ListKind.{ListKind}
 use Rattle.lg_types.specs.declared.filters.ListKind.TheVariants.{Ledgers, Accounts, Transactions, Logs, Volumes, Aggregate}
@@ -18,8 +15,7 @@ use Rattle.lg_types.specs.declared.filters.After.TheVariants.{Place, Address as 
 use Rattle.lg_types.specs.declared.filters.Filter.{Filter, All, Compare, Has, Both', Either', Not'}
 use Rattle.lg_types.specs.declared.queries.Query.{Query}
 use Rattle.lg_types.specs.declared.queries.Span.{Span}
-use Rattle.lg_views.specs.FilterReadings.{IsFilter}
-use Rattle.lg_views.specs.TokenReadings.{IsPlaceOf, IsDate, IsPit, IsSpan, IsListFilter, IsPageQuery}
+use Rattle.lg_views.specs.TokenReadings.{IsPlaceOf, IsDate, IsPit, IsSpan, IsPageQuery}
 use Rattle.lg_views.specs.Tokens.{kind_name, filter_text, filter_member, after_text, pit_text, start_text, end_text, expand_text, token_text, token}
 use Rattle.lg_entry_lines.proofs.Names.{address_utf8, asset_utf8}
 use Rattle.lg_token_texts.specs.Laws.{Decodes}
@@ -129,53 +125,55 @@ filter_member_bytes (Both' shape filters) h = written_filter (Both' shape filter
 filter_member_bytes (Either' shape filters) h = written_filter (Either' shape filters) h
 filter_member_bytes (Not' shape filters) h = written_filter (Not' shape filters) h
 
--- ---- the token
+-- ---- the token: its front, its span and its end
 
-text_bytes : (kind : ListKind) (q : Query) (place : After) → IsPageQuery kind q place → AreBytes (token_text kind q place)
-text_bytes kind q place h =
-    let span : IsSpanInRange q.span = span_in_range kind q.span h.span in
+abbrev front_pieces : ListKind → Query → List (List ℕ)
+front_pieces kind q = codes "{\"kind\":" ∷ quoted (kind_name kind) ∷ codes ",\"pageSize\":" ∷ decimal q.page_size ∷ optional_text pit_text q.pit ∷ []
+
+abbrev span_pieces : Span → List (List ℕ)
+span_pieces span = optional_text start_text span.from ∷ optional_text end_text span.to ∷ by_insertion_text span.by_insertion ∷ group_text span.group ∷ []
+
+abbrev end_pieces : Query → After → List (List ℕ)
+end_pieces q place = expand_text q.expand.volumes q.expand.effective ∷ filter_member q.filter ∷ codes ",\"after\":" ∷ after_text place ∷ codes "}" ∷ []
+
+span_bytes : (span : Span) → IsSpanInRange span → AreBytes (concat (span_pieces span))
+span_bytes span h =
+    together (span_pieces span) (
+      optional_bytes (codes ",\"startTime\":") span.from (literal (codes ",\"startTime\":") refl) h.from,
+      (optional_bytes (codes ",\"endTime\":") span.to (literal (codes ",\"endTime\":") refl) h.to, (insertion_bytes span.by_insertion, (group_bytes span.group h.group, tt))),
+    )
+
+end_bytes : (kind : ListKind) (q : Query) (place : After) → IsPageQuery kind q place → AreBytes (concat (end_pieces q place))
+end_bytes kind q place h =
+    together (end_pieces q place) (
+      expand_bytes q.expand.volumes q.expand.effective,
+      (
+        filter_member_bytes q.filter (filter_bytes kind q.filter 64 h.filter.shown h.filter.is h.filter.fits),
+        (literal (codes ",\"after\":") refl, (after_bytes kind place h.of_list, (literal (codes "}") refl, tt))),
+      ),
+    )
+
+front_bytes : (kind : ListKind) (q : Query) (place : After) → IsPageQuery kind q place → AreBytes (concat (front_pieces kind q))
+front_bytes kind q place h =
     let most : q.page_size ≤ 100 = h.most in
-    together
-    (codes "{\"kind\":" ∷ quoted (kind_name kind) ∷ codes ",\"pageSize\":" ∷ decimal q.page_size ∷ optional_text pit_text q.pit ∷ optional_text start_text q.span.from ∷ optional_text end_text q.span.to ∷ by_insertion_text q.span.by_insertion ∷ group_text q.span.group ∷ expand_text q.expand.volumes q.expand.effective ∷ filter_member q.filter ∷ codes ",\"after\":" ∷ after_text place ∷ codes "}" ∷ []) (
+    together (front_pieces kind q) (
       literal (codes "{\"kind\":") refl,
       (
         quoted_bytes (kind_name kind) (kind_bytes kind),
         (
           literal (codes ",\"pageSize\":") refl,
-          (
-            decimal_bytes q.page_size (omega arith),
-            (
-              optional_bytes (codes ",\"pit\":") q.pit (literal (codes ",\"pit\":") refl) (pit_is_date kind q.pit h.pit),
-              (
-                optional_bytes (codes ",\"startTime\":") q.span.from (literal (codes ",\"startTime\":") refl) span.from,
-                (
-                  optional_bytes (codes ",\"endTime\":") q.span.to (literal (codes ",\"endTime\":") refl) span.to,
-                  (
-                    insertion_bytes q.span.by_insertion,
-                    (
-                      group_bytes q.span.group span.group,
-                      (
-                        expand_bytes q.expand.volumes q.expand.effective,
-                        (
-                          filter_member_bytes q.filter (filter_bytes kind q.filter 64 h.filter.shown h.filter.is h.filter.fits),
-                          (
-                            literal (codes ",\"after\":") refl,
-                            (
-                              after_bytes kind place h.of_list,
-                              (literal (codes "}") refl, tt),
-                            ),
-                          ),
-                        ),
-                      ),
-                    ),
-                  ),
-                ),
-              ),
-            ),
-          ),
+          (decimal_bytes q.page_size (omega arith), (optional_bytes (codes ",\"pit\":") q.pit (literal (codes ",\"pit\":") refl) (pit_is_date kind q.pit h.pit), tt)),
         ),
       ),
     )
+
+text_bytes : (kind : ListKind) (q : Query) (place : After) → IsPageQuery kind q place → AreBytes (token_text kind q place)
+text_bytes kind q place h =
+    let rest : AreBytes (concat (span_pieces q.span ++ end_pieces q place)) =
+    subst AreBytes (sym (concat-append (span_pieces q.span) (end_pieces q place)))
+    (both (concat (span_pieces q.span)) (concat (end_pieces q place)) (span_bytes q.span (span_in_range kind q.span h.span)) (end_bytes kind q place h)) in
+    subst AreBytes (sym (concat-append (front_pieces kind q) (span_pieces q.span ++ end_pieces q place)))
+    (both (concat (front_pieces kind q)) (concat (span_pieces q.span ++ end_pieces q place)) (front_bytes kind q place h) rest)
 
 pub tokens_decode : (kind : ListKind) (q : Query) (place : After) → IsPageQuery kind q place → Decodes kind q place
 unfolding token

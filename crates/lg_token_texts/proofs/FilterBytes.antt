@@ -1,5 +1,5 @@
 -- The texts of filters are bytes.
-use Rattle.std.proofs.Common.{◌≡◌, ℕ, ◌+◌, ◌-◌, ◌^◌, ◌<◌, List, [], ◌∷◌, ◌++◌, refl, sym, ap, subst, arith}
+use Rattle.std.proofs.Common.{ℕ, ◌+◌, ◌-◌, List, [], ◌∷◌, ◌++◌, refl, sym, ap, subst, arith}
 use Rattle.std.specs.Prelude.{ℤ, pos, negsuc, true, false, codes, decimal}
 use Rattle.lg_base.specs.Texts.{quoted}
 use Rattle.lg_json.specs.Grammar.{InRange, Fits, AllFit}

@@ -1,5 +1,5 @@
 -- Objects of one member, and what fields are compared with, as JSON texts.
-use Rattle.std.proofs.Common.{◌≡◌, ℕ, ◌-◌, ◌<◌, true, false, List, [], ◌∷◌, ◌++◌, refl, sym, ap, subst, ◌∙◌, append_assoc}
+use Rattle.std.proofs.Common.{◌≡◌, ℕ, ◌-◌, ◌<◌, true, false, List, [], ◌∷◌, ◌++◌, refl, sym, ap, subst, append_assoc}
 use Rattle.std.specs.Prelude.{IsUtf8, codes}
 use Rattle.std.proofs.lemmas.Str.{IsUtf8-append}
 use Rattle.lg_base.specs.Texts.{quoted}

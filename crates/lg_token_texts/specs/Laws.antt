@@ -1,5 +1,5 @@
 -- The laws by which a reader of tokens finds again what was written.
-use Rattle.std.specs.Prelude.{◌≡◌, ℕ, ℤ, List, [], ◌∷◌, ◌++◌, Ok, All}
+use Rattle.std.specs.Prelude.{◌≡◌, ℕ, ℤ, [], ◌∷◌, ◌++◌, Ok, All}
 use Rattle.std.specs.Int.{IsInRange}
 use Rattle.base64.specs.GeneralPurpose.{IsBytes, decode_of}
 use Rattle.base64.specs.Engines.{url_safe_no_pad}

@@ -1,4 +1,4 @@
-use Rattle.std.proofs.Common.{ℕ, List, [], ◌∷◌, ◌++◌}
+use Rattle.std.proofs.Common.{[], ◌∷◌, ◌++◌}
 use Rattle.lg_base.proofs.Feeds.{then, stop, same_text}
 use Rattle.lg_views.specs.Tokens.{field_name, value_text, one_member}
 use Rattle.lg_token_texts.proofs.Texts.{opened}
