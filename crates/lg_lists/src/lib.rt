@@ -10,3 +10,6 @@ mod queries;
 pub use lists::Lists;
 pub use number_parameters::{group_by, page_size};
 pub use queries::{items_query, ledgers_query, logs_query, volumes_query};
+
+#[cfg(test)]
+mod tests;
