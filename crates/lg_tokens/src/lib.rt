@@ -1,0 +1,6 @@
+//! Stand-in.
+#![tactic(auto)]
+
+mod tokens;
+
+pub use tokens::read_token;
