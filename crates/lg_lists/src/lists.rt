@@ -24,7 +24,7 @@ impl ListReader for Lists {
             ListKind::Transactions => items_query(alloc, ListKind::Transactions, parameters, body),
             ListKind::Logs => logs_query(alloc, parameters, body),
             ListKind::Volumes => volumes_query(alloc, parameters, body),
-            ListKind::Aggregate => Err(CodecStop::NoMemory),
+            ListKind::Aggregate => unreachable!(),
         }
     }
 
