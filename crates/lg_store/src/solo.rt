@@ -1,7 +1,8 @@
 //! The ledger of one thread.
 
-ghost use Rattle.std.specs.Prelude.{◌≡◌, [], IfOk};
+ghost use Rattle.std.specs.Prelude.{◌≡◌, ◌<◌, ◌↔◌, [], IfOk, IfSome, IsSome};
 ghost use Rattle.lg_types.specs.Log.{first_events};
+ghost use Rattle.lg_types.specs.Parts.{part_of};
 ghost use Rattle.lg_store.specs.Answering.{Answers};
 
 use crate::calls::answer_call;
@@ -52,6 +53,14 @@ impl Solo {
         ensures { result.now ≡ record { events = self.now; prepared = [] } }
     {
         &self.book
+    }
+
+    /// What the shard of the stripe knows, and `None` where there is no such stripe: stripes are numbered from 0 to 15.
+    pub fn shard(&self, stripe: u8) -> Option<&Shard>
+        ensures there { IsSome result ↔ (stripe < 16) }
+        ensures own { IfSome result (λ shard. shard.now ≡ record { stripe = stripe; shares = part_of stripe self.now; prepared = [] }) }
+    {
+        self.shards.get(stripe as usize)
     }
 
     /// Answers a call at a moment, in microseconds since 1970-01-01T00:00:00Z, and adds its events. Where memory is wanting
