@@ -7,7 +7,8 @@ use crate::errors::error_text;
 use crate::limits::{BYTE_LIMIT, LINE_LIMIT, line_count};
 use crate::words::is_run;
 use lg_base::{ReadEnd, Sink, Source, Status, read_all, write_whole};
-use lg_batch::{NoLists, NoMemory, RunEnd, read_script, run_script};
+use lg_batch::{NoMemory, RunEnd, read_script, run_script};
+use lg_lists::Lists;
 use std::alloc::Global;
 
 /// Does what the words say: `run` reads a script of requests from the source to its end, runs it on one thread, and
@@ -69,7 +70,7 @@ fn run<S: Source, K: Sink>(alloc: Global, source: &mut S, out: &mut K) -> Status
 fn run_bytes<K: Sink>(alloc: Global, bytes: &[u8], out: &mut K) -> Status
     ensures { RunsOn K.Sink bytes.now out.old out.new result }
 {
-    let script = match read_script::<NoLists>(alloc, bytes) {
+    let script = match read_script::<Lists>(alloc, bytes) {
         Ok(script) => script,
         Err(NoMemory) => return Status::Memory,
     };

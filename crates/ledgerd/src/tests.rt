@@ -63,10 +63,12 @@ fn worked_scripts_have_their_outputs(rt: HostRuntime) -> Result<(), Fail> {
 fn lists_and_imports_are_not_built(rt: HostRuntime) -> Result<(), Fail> {
     let input: &[u8] = br#"{"now":"2024-01-01T00:00:00Z","method":"GET","path":"/v2/default/logs"}
 {"now":"2024-01-01T00:00:00Z","method":"POST","path":"/v2/default/logs/import","body":""}
+{"now":"2024-01-01T00:00:00Z","method":"GET","path":"/v2/default/logs?pageSize=0"}
 "#;
     let output: &[u8] =
         br#"{"line":1,"front":1,"events":0,"hit":false,"status":501,"body":{"errorCode":"NOT_BUILT","errorMessage":"not built"}}
 {"line":2,"front":1,"events":0,"hit":false,"status":501,"body":{"errorCode":"NOT_BUILT","errorMessage":"not built"}}
+{"line":3,"front":1,"events":0,"hit":false,"status":400,"body":{"errorCode":"VALIDATION","errorMessage":"query pageSize"}}
 {"event":0,"made":{"name":"default","addedAt":"1970-01-01T00:00:00Z","bucket":"_default","metadata":{}}}
 "#;
     let ending = run(rt.alloc(), input)?;

@@ -1,4 +1,4 @@
--- The lines of a script, where some requests aren't read yet: they are calls that are refused as not built.
+-- The lines of a script, where imports aren't read yet: they are calls that are refused as not built.
 use Rattle.std.specs.Prelude.{◌≡◌, ◌⊎◌, ℕ, ℤ, MatchBool, List, [], ◌∷◌, Option, Ok, codes}
 use Rattle.lg_json.specs.Tree.{Tree, Members}
 use Rattle.lg_json.specs.Tree.Tree.{members}

@@ -4,27 +4,27 @@ use Rattle.lg_targets.specs.Table.{found_in}
 use Rattle.lg_views.specs.Routes.{Route, Row, ListLedgers, MakeLedger, ShowLedger, ListAccounts, ShowAccount, SetAccountMetadata, DropAccountMetadata, ListTransactions, CreateTransaction, ShowTransaction, SetTransactionMetadata, DropTransactionMetadata, RevertTransaction, RunBulk, ListLogs, ExportLogs, ImportLogs, ListVolumes, AggregateBalances, ShowStats, routes_at}
 use Rattle.lg_views.specs.Targets.{path_segments}
 
--- requests of lists, of sums over them, and imports
+-- imports
 abbrev pub is_unread : Row → Bool
-is_unread ListLedgers = true
+is_unread ListLedgers = false
 is_unread MakeLedger = false
 is_unread ShowLedger = false
-is_unread ListAccounts = true
+is_unread ListAccounts = false
 is_unread ShowAccount = false
 is_unread SetAccountMetadata = false
 is_unread DropAccountMetadata = false
-is_unread ListTransactions = true
+is_unread ListTransactions = false
 is_unread CreateTransaction = false
 is_unread ShowTransaction = false
 is_unread SetTransactionMetadata = false
 is_unread DropTransactionMetadata = false
 is_unread RevertTransaction = false
 is_unread RunBulk = false
-is_unread ListLogs = true
+is_unread ListLogs = false
 is_unread ExportLogs = false
 is_unread ImportLogs = true
-is_unread ListVolumes = true
-is_unread AggregateBalances = true
+is_unread ListVolumes = false
+is_unread AggregateBalances = false
 is_unread ShowStats = false
 
 abbrev pub is_unread_match : Option (Option Route) → Bool

@@ -4,7 +4,6 @@
 mod bodies;
 mod content;
 mod line_parts;
-mod lists;
 mod members;
 mod output;
 mod run;
@@ -18,7 +17,6 @@ mod unread;
 
 pub use lg_base::NoMemory;
 pub use lg_views::ScriptLine;
-pub use lists::NoLists;
 pub use run::run_script;
 pub use run_end::RunEnd;
 pub use script::{Script, read_script};

@@ -1,7 +1,8 @@
 //! Scripts in odd spellings, and lines that aren't read.
 
-use crate::{NoLists, Script, ScriptLine, read_script};
-use lg_types::{Call, Reason, Refusal, Write};
+use crate::{Script, ScriptLine, read_script};
+use lg_lists::Lists;
+use lg_types::{Call, Read, Reason, Refusal, Write};
 use std::alloc::Global;
 use std::test::Fail;
 
@@ -36,6 +37,7 @@ fn told_refusal(alloc: Global, refusal: &Refusal) -> Result<String, Fail> {
             Ok(format!(in alloc; "{member} {reason}")?)
         }
         Refusal::NoRoute => Ok(format!(in alloc; "no route")?),
+        Refusal::Parameter { .. } => Ok(format!(in alloc; "a parameter")?),
         Refusal::NotBuilt => Ok(format!(in alloc; "not built")?),
         _ => Ok(format!(in alloc; "another refusal")?),
     }
@@ -51,6 +53,10 @@ fn told_call(alloc: Global, call: &Call) -> Result<String, Fail> {
             ..
         } => { Ok(format!(in alloc; "a creation with a key")?) }
         Call::Write { .. } => Ok(format!(in alloc; "another write")?),
+        Call::Read {
+            read: Read::Logs { .. },
+            ..
+        } => { Ok(format!(in alloc; "a page of a log")?) }
         _ => Ok(format!(in alloc; "another call")?),
     }
 }
@@ -70,12 +76,12 @@ fn line_at(script: &Script, place: usize) -> Result<&ScriptLine, Fail> {
 
 /// What the one line of a script says.
 fn told_line(alloc: Global, bytes: &[u8]) -> Result<String, Fail> {
-    let script = read_script::<NoLists>(alloc, bytes)?;
+    let script = read_script::<Lists>(alloc, bytes)?;
     told(alloc, line_at(&script, 0)?)
 }
 
 /// Lines, and what is read of each.
-const LINES: [(&[u8], &str); 15] = [
+const LINES: [(&[u8], &str); 17] = [
     (b"[]", "1 0 0 0 - kind"),
     (b"{\"now\":\"2024\n", "1 0 0 0 json 12"),
     (b"{}", "1 0 0 0 now missing"),
@@ -115,6 +121,14 @@ const LINES: [(&[u8], &str); 15] = [
     ),
     (
         b"{\"now\":\"1970-01-01T00:00:01Z\",\"method\":\"GET\",\"path\":\"/v2/default/logs\"}",
+        "1 0 0 1000000 a page of a log",
+    ),
+    (
+        b"{\"now\":\"1970-01-01T00:00:01Z\",\"method\":\"GET\",\"path\":\"/v2/default/logs?pageSize=0\"}",
+        "1 0 0 1000000 a parameter",
+    ),
+    (
+        b"{\"now\":\"1970-01-01T00:00:01Z\",\"method\":\"POST\",\"path\":\"/v2/default/logs/import\"}",
         "1 0 0 1000000 not built",
     ),
     (
@@ -134,7 +148,7 @@ fn lines_are_read_or_refused_at_their_first_fault(rt: HostRuntime) -> Result<(),
 
 #[test]
 fn lines_are_cut_and_counted(rt: HostRuntime) -> Result<(), Fail> {
-    let script = read_script::<NoLists>(rt.alloc(), b"[]\r\n\r\n\n \n{}")?;
+    let script = read_script::<Lists>(rt.alloc(), b"[]\r\n\r\n\n \n{}")?;
     assert_eq!(rt; script.len(), 3);
     assert_eq!(rt; line_at(&script, 0)?.line, 1);
     assert_eq!(rt; line_at(&script, 1)?.line, 4);
@@ -144,7 +158,7 @@ fn lines_are_cut_and_counted(rt: HostRuntime) -> Result<(), Fail> {
 
 #[test]
 fn phases_do_not_fall(rt: HostRuntime) -> Result<(), Fail> {
-    let script = read_script::<NoLists>(
+    let script = read_script::<Lists>(
         rt.alloc(),
         b"{\"now\":\"1970-01-01T00:00:01Z\",\"phase\":2,\"method\":\"POST\",\"path\":\"/v2/l\"}
 []

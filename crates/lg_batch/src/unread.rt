@@ -12,18 +12,12 @@ use lg_targets::{RouteMatch, Row, match_route, path_segments, split_target};
 use std::alloc::Global;
 use std::borrow::CowSlice;
 
-/// Whether the requests of a row aren't read: those of lists, and imports.
+/// Whether the requests of a row aren't read: imports.
 fn is_row_unread(row: Row) -> bool
     ensures { result ≡ is_unread (row_seen row) }
 {
     match row {
-        Row::ListLedgers => true,
-        Row::ListAccounts => true,
-        Row::ListTransactions => true,
-        Row::ListLogs => true,
         Row::ImportLogs => true,
-        Row::ListVolumes => true,
-        Row::AggregateBalances => true,
         _ => false,
     }
 }
@@ -47,7 +41,7 @@ fn is_unread_at_path(method: &[u8], segments: Option<Vec<CowSlice<'_, u8>>>) -> 
     }
 }
 
-/// Whether the request of a method and a target isn't read: it is of a list, or an import.
+/// Whether the request of a method and a target isn't read: it is an import.
 pub fn is_not_read(alloc: Global, method: &[u8], target: &[u8]) -> Result<bool, NoMemory>
     ensures { IfOk result (λ unread. unread ≡ is_request_unread method.now target.now) }
 {

@@ -10,4 +10,6 @@ pub use texts::{body_text, canonical_text, text_of};
 #[cfg(test)]
 mod body_tests;
 #[cfg(test)]
+mod request_tests;
+#[cfg(test)]
 mod told_calls;

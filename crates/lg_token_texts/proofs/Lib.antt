@@ -1,0 +1,10 @@
+pub mod Bytes
+pub mod Dates
+pub mod Decimals
+pub mod Decoded
+pub mod FilterBytes
+pub mod SpelledFilters
+pub mod OneText
+pub mod Texts
+pub mod Values
+pub mod Lists

@@ -1,0 +1,10 @@
+pub mod Beginnings
+pub mod Choices
+pub mod Cuts
+pub mod Dates
+pub mod FilterFaults
+pub mod FilterTexts
+pub mod Names
+pub mod PlaceTexts
+pub mod Records
+pub mod Whole
