@@ -1,9 +1,8 @@
 -- The lines of the answers, as far as they are fed.
-use Rattle.std.proofs.Common.{◌≡◌, ◌⊎◌, ℕ, ◌+◌, ◌≤◌, ◌<◌, List, [], ◌∷◌, ◌++◌, length, take, drop, map, flat_map, refl, sym, ap, subst, ◌∙◌, append_assoc, arith, get_or, drop_of_length-le, inr}
-use Rattle.std.specs.Prelude.{true, false, Result, Ok, Err, IsErr}
+use Rattle.std.proofs.Common.{◌≡◌, ℕ, ◌+◌, ◌≤◌, ◌<◌, List, [], ◌∷◌, ◌++◌, length, drop, map, flat_map, refl, sym, ap, subst, ◌∙◌, append_assoc, arith, get_or, drop_of_length-le, inr}
+use Rattle.std.specs.Prelude.{false, Result, Ok, Err, IsErr}
 use Rattle.std.specs.List.{zip}
 use Rattle.std.proofs.lemmas.List.{append-nil, drop_more}
-use Rattle.lg_base.specs.Growth.{Gives}
 use Rattle.lg_base.specs.Feeding.{Feeds}
 use Rattle.lg_base.specs.declared.feed.Feed.{Ghosts as FeedGhosts}
 use Rattle.lg_base.specs.declared.feed.Stop.{Stop}
@@ -17,12 +16,12 @@ use Rattle.lg_views.specs.Output.{answer_line, event_lines, script_output}
 use Rattle.lg_views.specs.Replies.{refused}
 use Rattle.lg_views.specs.declared.answers.Answer.{Answer}
 use Rattle.lg_views.specs.declared.lines.ScriptLine.{ScriptLine}
-use Rattle.lg_batch.specs.Runs.{built_line, AreAnswered, FeedsAnswers, FeedsOutput}
+use Rattle.lg_batch.specs.Runs.{built_line, FeedsAnswers, FeedsOutput}
 use Rattle.lg_batch.proofs.History.{Continues, start, step, finish}
 
 -- the lines of all answers are those of the answers so far, and then those of the answers to the lines that are left
-record Shows (lines left : List ScriptLine) (answers : List Answer) (text : List ℕ) : Type 0 where
-  on : (others : List Answer) → flat_map answer_line (zip lines (answers ++ others)) ≡ text ++ flat_map answer_line (zip left others)
+pub record Shows (lines left : List ScriptLine) (answers : List Answer) (text : List ℕ) : Type 0 where
+  pub on : (others : List Answer) → flat_map answer_line (zip lines (answers ++ others)) ≡ text ++ flat_map answer_line (zip left others)
 
 shown : (lines left : List ScriptLine) (l : ScriptLine) (answers : List Answer) (a : Answer) (text : List ℕ)
     → Shows lines (l ∷ left) answers text → Shows lines left (answers ++ a ∷ []) (text ++ answer_line (l, a))
