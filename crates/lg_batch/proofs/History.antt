@@ -1,7 +1,7 @@
 -- A history of one thread, line by line.
-use Rattle.std.proofs.Common.{◌≡◌, ℕ, ◌+◌, ◌≤◌, List, [], ◌∷◌, ◌++◌, length, take, drop, map, refl, sym, ap, subst, ◌∙◌, append_assoc, arith, length-append, get_or, ◌<◌, drop_of_length-le}
+use Rattle.std.proofs.Common.{◌≡◌, ℕ, ◌+◌, List, [], ◌∷◌, ◌++◌, length, take, drop, map, refl, sym, ap, subst, ◌∙◌, append_assoc, arith, length-append}
 use Rattle.std.proofs.Math.Seq.{take-append_seam, drop-append_seam}
-use Rattle.std.proofs.lemmas.List.{append-nil, drop_more}
+use Rattle.std.proofs.lemmas.List.{append-nil}
 use Rattle.lg_store.specs.Answering.{Answers}
 use Rattle.lg_types.specs.Lists.{IsPrefix}
 use Rattle.lg_types.specs.Log.{first_events}
@@ -9,8 +9,7 @@ use Rattle.lg_types.specs.declared.records.Event.{Event}
 use Rattle.lg_views.specs.History.{AloneFrom, IsAnswerTo}
 use Rattle.lg_views.specs.declared.answers.Answer.{Answer}
 use Rattle.lg_views.specs.declared.lines.ScriptLine.{ScriptLine}
-use Rattle.lg_views.specs.Output.{script_output}
-use Rattle.lg_batch.specs.Runs.{built_line, AreAnswered, IsOutputOf}
+use Rattle.lg_batch.specs.Runs.{built_line, AreAnswered}
 
 -- whatever answers the lines that are left, from these events on, has answered all lines from the first event on
 pub record Continues (lines : List ScriptLine) (events : List Event) (left : List ScriptLine) (answers : List Answer) : Type 0 where
@@ -48,7 +47,7 @@ grown lines left events l answers a own c front count reply = record {
 }
 
 -- a step of the loop
-step : (lines left : List ScriptLine) (events new : List Event) (l : ScriptLine) (answers : List Answer) (a : Answer)
+pub step : (lines left : List ScriptLine) (events new : List Event) (l : ScriptLine) (answers : List Answer) (a : Answer)
     → Continues lines events (l ∷ left) answers → Answers events l.call l.moment a new → Continues lines new left (answers ++ a ∷ [])
 step lines left events new l answers a c h =
     subst (λ (all : List Event). Continues lines all left (answers ++ a ∷ [])) (sym h.added) (grown lines left events l answers a h.own c h.front h.count h.reply)
@@ -61,34 +60,9 @@ start lines events e = subst (λ (all : List Event). Continues lines all lines [
 })
 
 -- after the last line
-finish : (lines : List ScriptLine) (events : List Event) (answers : List Answer) → Continues lines events [] answers → AreAnswered events lines answers
+pub finish : (lines : List ScriptLine) (events : List Event) (answers : List Answer) → Continues lines events [] answers → AreAnswered events lines answers
 finish lines events answers c = record {
   first = c.first;
   «from» = subst (λ (all : List Event). AloneFrom all 1 (map built_line lines) answers) (append-nil events)
       (subst (λ (given : List Answer). AloneFrom (events ++ []) 1 (map built_line lines) given) (append-nil answers) (c.on [] [] (sym (ap length (append-nil events)))));
-}
-
--- a step of the loop, at a place of the lines
-pub step_at : (lines : List ScriptLine) (i : ℕ) (l : ScriptLine) (events new : List Event) (answers after : List Answer) (a : Answer)
-    → Continues lines events (drop i lines) answers → i < length lines → l ≡ get_or lines i l
-    → Answers events l.call l.moment a new → after ≡ answers ++ a ∷ [] → Continues lines new (drop (i + 1) lines) after
-step_at lines i l events new answers after a c within is h after_is =
-    subst (λ (given : List Answer). Continues lines new (drop (i + 1) lines) given) (sym after_is)
-    (step lines (drop (i + 1) lines) events new l answers a
-    (subst (λ (ls : List ScriptLine). Continues lines events ls answers) (drop_more lines i l within ∙ ap (λ (y : ScriptLine). y ∷ drop (i + 1) lines) (sym is)) c) h)
-
--- past the last place
-pub finish_at : (lines : List ScriptLine) (i : ℕ) (events : List Event) (answers : List Answer)
-    → Continues lines events (drop i lines) answers → length lines ≤ i → AreAnswered events lines answers
-finish_at lines i events answers c past =
-    finish lines events answers (subst (λ (ls : List ScriptLine). Continues lines events ls answers) (drop_of_length-le lines past) c)
-
--- what is written is the output of a history
-pub output_of : (lines : List ScriptLine) (events seen : List Event) (answers shown : List Answer) → AreAnswered events lines answers
-    → seen ≡ events → shown ≡ answers → IsOutputOf lines (script_output seen lines shown)
-output_of lines events seen answers shown alone seen_is shown_is = record {
-  events = events;
-  answers = answers;
-  alone = alone;
-  output_is = ap (λ (s : List Event). script_output s lines shown) seen_is ∙ ap (λ (given : List Answer). script_output events lines given) shown_is;
 }

@@ -4,7 +4,7 @@ pub mod Calls
 pub mod Cuts
 pub mod History
 pub mod Numbered
-pub mod Pairs
 pub mod Placing
 pub mod Readings
 pub mod SameMembers
+pub mod Shown

@@ -1,17 +1,14 @@
-//! Writing what came of a script: a line for each reply, then a line for each event.
+//! The lines that say what came of a script: one for each reply, and one for each event.
 
-ghost use Rattle.std.specs.Prelude.{◌≡◌, [], length, slice_get};
-ghost use Rattle.std.specs.List.{flat_map, zip};
+ghost use Rattle.std.specs.Prelude.{slice_get};
 ghost use Rattle.lg_base.specs.Feeding.{Feeds};
-ghost use Rattle.lg_base.specs.Waiting.{waiting};
-ghost use Rattle.lg_batch.specs.Buffered.{WritesThrough};
 ghost use Rattle.lg_batch.specs.LineParts.{line_part_text};
 ghost use Rattle.lg_batch.specs.Runs.{line_at};
 ghost use Rattle.lg_types.specs.CallTexts.{truth_text};
-ghost use Rattle.lg_views.specs.Output.{answer_line, event_line, event_lines, script_output};
+ghost use Rattle.lg_views.specs.Output.{answer_line, event_line, event_lines};
 
 use crate::line_parts::LinePart;
-use lg_base::{BufferedFeed, Feed, OutputBuffer, Sink, Stop};
+use lg_base::{Feed, Stop};
 use lg_book::Book;
 use lg_codec::{reply_text, status_of};
 use lg_containers::{Canonical, feed_all};
@@ -41,7 +38,7 @@ impl<'a> Canonical for LinePart<'a> {
 }
 
 /// Feeds the line of an answer.
-fn feed_answer<F: Feed>(line: &ScriptLine, answer: &Answer, to: &mut F) -> Result<(), Stop>
+pub fn feed_answer<F: Feed>(line: &ScriptLine, answer: &Answer, to: &mut F) -> Result<(), Stop>
     ensures { Feeds F.Feed to.old to.new (answer_line (line.now, answer.now)) result }
 {
     let status = status_of(&answer.reply);
@@ -65,16 +62,6 @@ fn feed_answer<F: Feed>(line: &ScriptLine, answer: &Answer, to: &mut F) -> Resul
     )
 }
 
-/// Feeds the lines of the answers.
-fn feed_answers<F: Feed>(lines: &[ScriptLine], answers: &[Answer], to: &mut F) -> Result<(), Stop>
-    ensures { Feeds F.Feed to.old to.new (flat_map answer_line (zip lines.now answers.now)) result }
-{
-    for (line, answer) in lines.iter().zip(answers) {
-        feed_answer(line, answer, to)?;
-    }
-    Ok(())
-}
-
 fn feed_event<F: Feed>(place: u64, event: &Event, to: &mut F) -> Result<(), Stop>
     ensures { Feeds F.Feed to.old to.new (event_line (place, event.now)) result }
 {
@@ -93,53 +80,11 @@ fn feed_event_at<F: Feed>(book: &Book, place: u64, to: &mut F) -> Result<(), Sto
 }
 
 /// Feeds the lines of the events.
-fn feed_events<F: Feed>(book: &Book, to: &mut F) -> Result<(), Stop>
+pub fn feed_events<F: Feed>(book: &Book, to: &mut F) -> Result<(), Stop>
     ensures { Feeds F.Feed to.old to.new (event_lines book.now.events) result }
 {
     for place in 0..book.len() {
         feed_event_at(book, place, to)?;
     }
     Ok(())
-}
-
-fn feed_output<F: Feed>(
-    book: &Book,
-    lines: &[ScriptLine],
-    answers: &[Answer],
-    to: &mut F,
-) -> Result<(), Stop>
-    ensures { Feeds F.Feed to.old to.new (script_output book.now.events lines.now answers.now) result }
-{
-    feed_answers(lines, answers, to)?;
-    feed_events(book, to)
-}
-
-/// Feeds the whole output to an empty buffer in front of a sink, and writes what waits.
-fn feed_and_flush<K: Sink>(
-    book: &Book,
-    lines: &[ScriptLine],
-    answers: &[Answer],
-    feed: &mut BufferedFeed<'_, K>,
-) -> Result<(), Stop>
-    requires { waiting feed.old.buffer.now ≡ [] }
-    ensures written { WritesThrough K.Sink feed.old.sink.now feed.new.sink.now (script_output book.now.events lines.now answers.now) result }
-    ensures same_reference { feed.new.sink.ghost_name ≡ feed.old.sink.ghost_name }
-{
-    feed_output(book, lines, answers, feed)?;
-    feed.flush()
-}
-
-/// Writes the whole output through the buffer.
-pub fn write_output<K: Sink>(
-    buffer: &mut OutputBuffer,
-    book: &Book,
-    lines: &[ScriptLine],
-    answers: &[Answer],
-    out: &mut K,
-) -> Result<(), Stop>
-    requires { waiting buffer.old ≡ [] }
-    ensures { WritesThrough K.Sink out.old out.new (script_output book.now.events lines.now answers.now) result }
-{
-    let mut feed = BufferedFeed::new(out, buffer);
-    feed_and_flush(book, lines, answers, &mut feed)
 }

@@ -1,5 +1,5 @@
 use Rattle.std.proofs.Common.{◌∙◌, sym}
-use Rattle.lg_batch.proofs.output.write_output.Goals as goal
+use Rattle.lg_batch.proofs.run.write_output.Goals as goal
 
 pub returns : goal.returns
 returns g c =
