@@ -37,10 +37,15 @@ const REVERT: &str =
 const FORCED: &str =
     r#"default, no key: {"action":"REVERT_TRANSACTION","data":{"id":1,"force":true,"atEffectiveDate":false}}"#;
 
-/// Whether the request is read as what is told.
-fn is_read_as(alloc: Global, request: &Request<'_>, told: &str) -> Result<bool, Fail> {
-    let call = told_call(alloc, &call_of(alloc, request)?)?;
-    Ok(call.as_str() == told)
+/// What is asked for by a request.
+fn told(alloc: Global, request: &Request<'_>) -> Result<String, Fail> {
+    told_call(alloc, &call_of(alloc, request)?)
+}
+
+/// Whether the request is read as the text says.
+fn is_read_as(alloc: Global, request: &Request<'_>, text: &str) -> Result<bool, Fail> {
+    let call = told(alloc, request)?;
+    Ok(call.as_str() == text)
 }
 
 /// Asserts that the requests of a table are read as it says.
