@@ -2,6 +2,7 @@ pub mod Grammar
 pub mod GrammarLaws
 pub mod NameFaults
 pub mod Bytes
+pub mod Names
 pub mod AddressGrammar
 pub mod AddressLaws
 pub mod AssetGrammar

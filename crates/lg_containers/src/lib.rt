@@ -15,6 +15,8 @@ mod map;
 mod name;
 mod order;
 mod reference;
+mod shared;
+mod short;
 mod text;
 pub mod utf8;
 
@@ -30,6 +32,7 @@ pub use list::List;
 pub use map::NameMap;
 pub use name::Name;
 pub use reference::{ReferenceGrammar, ReferenceState};
+pub use shared::Shared;
 pub use text::TextGrammar;
 
 /// The address of an account, as `users:1:wallet`.

@@ -2,18 +2,69 @@
 
 ghost use Rattle.std.specs.Prelude.{◌≡◌, IfOk, OnOk, IfErr};
 ghost use Rattle.lg_containers.specs.NameFaults.{IsNameFault};
+ghost use Rattle.lg_containers.specs.Names.{bytes_seen};
 
 use crate::duplicate::Duplicate;
 use crate::fault::{NameFault, NoMemory};
 use crate::grammar::Grammar;
+use crate::short::{ROOM, ShortBytes};
 use std::alloc::Global;
 use std::marker::{Model, PhantomData};
 
-/// A name of the grammar `G`, seen as the list of its bytes.
+/// The bytes of a name: in place where there is room, else on the heap.
+#[derive(Drop)]
+enum Bytes {
+    Short(ShortBytes),
+    Long(Vec<u8>),
+}
+
+/// A name of the grammar `G`, seen as the list of its bytes. Up to 23 bytes stand in the value itself, so that most names
+/// take no memory, and a copy of them is cheap.
 #[derive(Drop)]
 pub struct Name<G: Grammar> {
-    bytes: Vec<u8>,
+    bytes: Bytes,
     grammar: PhantomData<G>,
+}
+
+impl Bytes {
+    /// A copy of the bytes.
+    fn of(alloc: Global, bytes: &[u8]) -> Result<Bytes, NoMemory>
+        ensures { IfOk result (λ own. bytes_seen own ≡ bytes.now) }
+    {
+        if bytes.len() <= ROOM {
+            Ok(Bytes::Short(ShortBytes::of(bytes)))
+        } else {
+            Ok(Bytes::Long(Vec::from_slice(alloc, bytes)?))
+        }
+    }
+
+    fn of_vec(bytes: Vec<u8>) -> Bytes
+        ensures { bytes_seen result ≡ bytes.items }
+    {
+        if bytes.len() <= ROOM {
+            Bytes::Short(ShortBytes::of(bytes.as_slice()))
+        } else {
+            Bytes::Long(bytes)
+        }
+    }
+
+    fn copy(&self, alloc: Global) -> Result<Bytes, NoMemory>
+        ensures { IfOk result (λ own. bytes_seen own ≡ bytes_seen self.now) }
+    {
+        match self {
+            Bytes::Short(bytes) => Ok(Bytes::Short(*bytes)),
+            Bytes::Long(bytes) => Bytes::of(alloc, bytes.as_slice()),
+        }
+    }
+
+    fn as_slice(&self) -> &[u8]
+        ensures { result.now ≡ bytes_seen self.now }
+    {
+        match self {
+            Bytes::Short(bytes) => bytes.as_slice(),
+            Bytes::Long(bytes) => bytes.as_slice(),
+        }
+    }
 }
 
 impl<G: Grammar> Model for Name<G> {
@@ -21,9 +72,11 @@ impl<G: Grammar> Model for Name<G> {
 
     ghost Value = { List ℕ };
 
-    ghost view = { λ n. n.bytes.items };
+    ghost use Rattle.lg_containers.specs.Names.{bytes_seen};
 
-    ghost invariant = { λ n. G.Names n.bytes.items };
+    ghost view = { λ n. bytes_seen n.bytes };
+
+    ghost invariant = { λ n. G.Names (bytes_seen n.bytes) };
 }
 
 impl<G: Grammar> Name<G> {
@@ -44,11 +97,7 @@ impl<G: Grammar> Name<G> {
         if !G::is_end(state) {
             return Err(NameFault::Bad { place: bytes.len() });
         }
-        let bytes = Vec::from_slice(alloc, bytes)?;
-        Ok(Name {
-            bytes,
-            grammar: PhantomData,
-        })
+        Ok(Name::copy_of(alloc, bytes)?)
     }
 
     /// The name that the bytes are, with no test.
@@ -57,9 +106,20 @@ impl<G: Grammar> Name<G> {
         ensures { result ≡ bytes.items }
     {
         Name {
-            bytes,
+            bytes: Bytes::of_vec(bytes),
             grammar: PhantomData,
         }
+    }
+
+    /// The name that a copy of the bytes is, with no test.
+    pub fn copy_of(alloc: Global, bytes: &[u8]) -> Result<Name<G>, NoMemory>
+        requires { G.Names bytes.now }
+        ensures { IfOk result (λ name. name ≡ bytes.now) }
+    {
+        Ok(Name {
+            bytes: Bytes::of(alloc, bytes)?,
+            grammar: PhantomData,
+        })
     }
 
     /// The bytes of the name.
@@ -73,9 +133,8 @@ impl<G: Grammar> Name<G> {
 
 impl<G: Grammar> Duplicate for Name<G> {
     fn copy(&self, alloc: Global) -> Result<Name<G>, NoMemory> {
-        let bytes = Vec::from_slice(alloc, self.bytes.as_slice())?;
         Ok(Name {
-            bytes,
+            bytes: self.bytes.copy(alloc)?,
             grammar: PhantomData,
         })
     }

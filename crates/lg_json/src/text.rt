@@ -112,8 +112,7 @@ pub fn read_text(alloc: Global, bytes: &[u8], place: usize) -> Result<(Text, usi
     let end = run_end(bytes, place);
     if end < bytes.len() {
         if bytes[end] == b'"' {
-            let text = Vec::from_slice(alloc, &bytes[place..end])?;
-            return Ok((Text::from_vec(text), end));
+            return Ok((Text::copy_of(alloc, &bytes[place..end])?, end));
         }
     }
     read_mixed(alloc, bytes, place)
