@@ -1,7 +1,7 @@
 -- Bytes that wait in front of a sink: how writing them, and writing past them, keeps what stands there.
-use Rattle.std.proofs.Common.{◌≡◌, ℕ, ◌≤◌, List, [], ◌++◌, length, refl, sym, ◌∙◌, ap, subst, append_assoc, arith}
+use Rattle.std.proofs.Common.{◌≡◌, ℕ, ◌≤◌, ◌+◌, List, [], ◌++◌, length, take, drop, refl, sym, ◌∙◌, ap, subst, append_assoc, arith}
 use Rattle.std.specs.Prelude.{Option, Some, None, Result}
-use Rattle.std.proofs.lemmas.List.{append-nil, drop_all}
+use Rattle.std.proofs.lemmas.List.{append-nil, length-take-le, drop-append-le}
 use Rattle.std.proofs.lemmas.Result.{on_ok_weaker, on_err_weaker}
 use Rattle.lg_base.specs.Growth.{Rose, Gives}
 use Rattle.lg_base.specs.Told.{Told, added}
@@ -30,10 +30,6 @@ pub ahead_in_part : (written : Option (List ℕ)) (held m : List ℕ) → Ahead 
 ahead_in_part None held m h = (m, [], sym (append-nil m), tt)
 ahead_in_part (Some w) held m h = (w, held, sym h, refl)
 
--- a buffer without bytes has none that wait
-pub nothing_waits : (b : OutputBuffer) → length b.bytes.items ≡ 0 → waiting b ≡ []
-nothing_waits b e = let short : length b.bytes.items ≤ b.start = omega arith in drop_all b.start b.bytes.items short
-
 -- waiting bytes were passed on, and then a text was written past an empty buffer
 pub written_past : {K E : Type 0} (written : K → Option (List ℕ)) (faults : K → ℕ) (k l n : K) (b c : OutputBuffer) (text : List ℕ) (r : Result (Unit {0}) E)
     → ((m : List ℕ) → Ahead (written k) (waiting b) m → Ahead (written l) (waiting c) m) → faults k ≤ faults l → waiting c ≡ []
@@ -49,3 +45,12 @@ written_past written faults k l n b c text r same later empty g = record {
   };
   same = refl;
 }
+
+-- bytes are put behind those that wait
+pub appended : (start end : ℕ) (items others bytes : List ℕ) → start ≤ end → end ≤ length items
+    → take (end + length bytes) others ≡ take end items ++ bytes
+    → drop start (take (end + length bytes) others) ≡ drop start (take end items) ++ bytes
+appended start end items others bytes low high front =
+    let length_is : length (take end items) ≡ end = length-take-le end items high in
+    let within : start ≤ length (take end items) = omega arith in
+    ap (drop start) front ∙ drop-append-le start (take end items) bytes within

@@ -1,6 +1,6 @@
 //! A feed over a borrowed sink with a buffer of bounded size between, so that small pieces make few writes.
 
-ghost use Rattle.std.specs.Prelude.{◌≡◌, ◌≤◌, ◌<◌, ◌+◌, length, drop, IfOk};
+ghost use Rattle.std.specs.Prelude.{◌≡◌, ◌≤◌, ◌<◌, ◌+◌, [], length, drop, IfOk};
 ghost use Rattle.lg_base.specs.Growth.{Gives};
 ghost use Rattle.lg_base.specs.Buffering.{Ahead, PassesOn};
 ghost use Rattle.lg_base.specs.Waiting.{waiting, AheadOf};
@@ -32,7 +32,7 @@ impl<'a, K: Sink> BufferedFeed<'a, K> {
     pub fn flush(&mut self) -> Result<(), Stop>
         ensures passed { PassesOn (K.written self.old.sink.now) (K.written self.new.sink.now) (waiting self.old.buffer.now) (waiting self.new.buffer.now) (K.faults self.old.sink.now) (K.faults self.new.sink.now) result }
         ensures same_reference { self.new.sink.ghost_name ≡ self.old.sink.ghost_name }
-        ensures empty { IfOk result (λ _. length self.new.buffer.now.bytes.items ≡ 0) }
+        ensures empty { IfOk result (λ _. waiting self.new.buffer.now ≡ []) }
     {
         write_waiting(self.sink, self.buffer)
     }
@@ -41,11 +41,12 @@ impl<'a, K: Sink> BufferedFeed<'a, K> {
 /// Writes the waiting bytes, in as many writes as the sink needs.
 fn write_waiting<K: Sink>(sink: &mut K, buffer: &mut OutputBuffer) -> Result<(), Stop>
     ensures passed { PassesOn (K.written sink.old) (K.written sink.new) (waiting buffer.old) (waiting buffer.new) (K.faults sink.old) (K.faults sink.new) result }
-    ensures empty { IfOk result (λ _. length buffer.new.bytes.items ≡ 0) }
+    ensures empty { IfOk result (λ _. waiting buffer.new ≡ []) }
+    ensures room { IfOk result (λ _. buffer.new.end ≡ 0) }
 {
-    write_from(sink, buffer.bytes.as_slice(), &mut buffer.start)?;
+    write_from(sink, &buffer.bytes[..buffer.end], &mut buffer.start)?;
     buffer.start = 0;
-    buffer.bytes.clear();
+    buffer.end = 0;
     Ok(())
 }
 
@@ -88,19 +89,17 @@ fn give_buffered<K: Sink>(sink: &mut K, buffer: &mut OutputBuffer, bytes: &[u8])
     if bytes.len() > ROOM {
         return write_whole(sink, bytes);
     }
-    match buffer.bytes.extend_from_slice(bytes) {
-        Ok(()) => Ok(()),
-        Err(_) => unreachable!(),
-    }
+    buffer.append(bytes);
+    Ok(())
 }
 
 /// Writes what waits where there is no room for so many bytes behind it.
 fn make_room<K: Sink>(sink: &mut K, buffer: &mut OutputBuffer, count: usize) -> Result<(), Stop>
     ensures passed { PassesOn (K.written sink.old) (K.written sink.new) (waiting buffer.old) (waiting buffer.new) (K.faults sink.old) (K.faults sink.new) result }
-    ensures small { IfOk result (λ _. count ≤ 65536 → length buffer.new.bytes.items + count ≤ 65536) }
-    ensures large { IfOk result (λ _. 65536 < count → length buffer.new.bytes.items ≡ 0) }
+    ensures small { IfOk result (λ _. count ≤ 65536 → buffer.new.end + count ≤ 65536) }
+    ensures large { IfOk result (λ _. 65536 < count → waiting buffer.new ≡ []) }
 {
-    if count > ROOM || buffer.bytes.len() > ROOM - count {
+    if count > ROOM || buffer.end > ROOM - count {
         write_waiting(sink, buffer)
     } else {
         Ok(())

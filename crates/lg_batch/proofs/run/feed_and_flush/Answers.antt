@@ -1,4 +1,3 @@
-use Rattle.lg_base.proofs.Buffered.{nothing_waits}
 use Rattle.std.proofs.Common.{◌≡◌, [], length}
 use Rattle.std.specs.Prelude.{IfOk, Ok, Err}
 use Rattle.lg_base.specs.Waiting.{waiting}
@@ -22,5 +21,5 @@ returns-clause-written g c =
       h.1,
       flushed g.K.Sink c.args.feed.now.sink.now c.feed_output.new.to.sink.now c.flush.new.self.sink.now (waiting c.feed_output.new.to.buffer.now) (waiting c.flush.new.self.buffer.now) h.0 c.flush.result
           (fed_whole (λ f. g.K.Sink.written f.sink.now) (λ f. waiting f.buffer.now) _ _ _ _ _ _ h.2 c.requires.waits)
-          h.2.cause.later c.flush.ensures.passed (elim c.flush.result as (λ r. IfOk r (λ _. length c.flush.new.self.buffer.now.bytes.items ≡ 0) → IfOk r (λ _. waiting c.flush.new.self.buffer.now ≡ [])) [ Ok u ↦ λ e. nothing_waits c.flush.new.self.buffer.now e | Err e ↦ λ _. tt ] c.flush.ensures.empty),
+          h.2.cause.later c.flush.ensures.passed c.flush.ensures.empty,
     )
