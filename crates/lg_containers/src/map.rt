@@ -147,10 +147,21 @@ fn put_entry<G: Grammar, V: Drop>(
             Ok(())
         }
         Err(place) => {
+            reserve_first(entries)?;
             entries.insert(place, (name, value))?;
             Ok(())
         }
     }
+}
+
+// Takes room for one entry and no more, where there is none yet: many maps have one name.
+fn reserve_first<G: Grammar, V>(entries: &mut Vec<(Name<G>, V)>) -> Result<(), NoMemory>
+    ensures { entries.new.items ≡ entries.old.items }
+{
+    if entries.is_empty() {
+        entries.reserve_exact(1)?;
+    }
+    Ok(())
 }
 
 fn take_entry<G: Grammar, V: Drop>(entries: &mut Vec<(Name<G>, V)>, name: &[u8]) -> Option<V>

@@ -1,4 +1,4 @@
-use Rattle.std.proofs.Common.{◌∙◌}
+use Rattle.std.proofs.Common.{insert, ap, ◌∙◌}
 use Rattle.lg_containers.specs.Places.{IsAt, BelongsAt}
 use Rattle.lg_containers.proofs.Placed.{put_at, inserted_at}
 use Rattle.lg_containers.proofs.map.put_entry.Goals as goal
@@ -11,4 +11,6 @@ returns-in-Ok-clause-ok g c =
 pub returns-in_ok-insert-in-Err-clause-ok : goal.returns-in_ok-insert-in-Err-clause-ok
 returns-in_ok-insert-in-Err-clause-ok g c =
     let at : BelongsAt c.args.name c.args.entries.now.items c.in-Err.place = rw (← c.deref.ensures.value, ← c.bytes.ensures.value) c.in-Err.ensures in
-    c.in_ok-insert-in-Err.ensures.items ∙ inserted_at c.args.name c.args.entries.now.items c.in-Err.place c.args.value at
+    c.in_ok-insert-in-Err.ensures.items
+    ∙ ap (λ l. insert l c.in-Err.place (c.args.name, c.args.value)) c.in_ok-reserve_first-in-Err.ensures
+    ∙ inserted_at c.args.name c.args.entries.now.items c.in-Err.place c.args.value at
