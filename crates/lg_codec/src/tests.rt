@@ -2,7 +2,7 @@
 
 use crate::*;
 use lg_base::{ByteFeed, Stop};
-use lg_containers::{Grammar, List, Name, NameFault};
+use lg_containers::{Grammar, List, Name, NameFault, Shared};
 use lg_json::{Json, read};
 use lg_types::{
     Address, Asset, ElementWrite, LedgerName, Meta, Posting, Postings, Reason, Refusal, Text,
@@ -398,12 +398,12 @@ fn volumes_of(
     alloc: Global,
     account: &[u8],
     volumes: Volumes,
-) -> Result<Option<AccountVolumes>, NameFault> {
+) -> Result<Option<Shared<AccountVolumes>>, NameFault> {
     let mut assets = AssetVolumes::new(alloc);
     assets.put(Asset::read(alloc, b"USD/2")?, volumes)?;
     let mut accounts = AccountVolumes::new(alloc);
     accounts.put(Address::read(alloc, account)?, assets)?;
-    Ok(Some(accounts))
+    Ok(Some(Shared::new(alloc, accounts)?))
 }
 
 fn one_posting(alloc: Global) -> Result<Postings, NameFault> {

@@ -1,5 +1,6 @@
 //! The pieces of the text of a transaction or an account in a reply.
 
+use lg_containers::Shared;
 use lg_types::RecordPart;
 use lg_views::{AccountVolumes, AssetVolumes};
 
@@ -14,5 +15,5 @@ pub enum ViewPart<'a> {
     /// A member that has volumes of assets, or nothing.
     Assets(&'a [u8], &'a Option<AssetVolumes>),
     /// A member that has volumes of accounts, or nothing.
-    Accounts(&'a [u8], &'a Option<AccountVolumes>),
+    Accounts(&'a [u8], &'a Option<Shared<AccountVolumes>>),
 }

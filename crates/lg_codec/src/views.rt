@@ -9,7 +9,7 @@ ghost use Rattle.lg_views.specs.ViewTexts.{reverted_at_text, assets_member, acco
 use crate::shown::{Shown, feed_named};
 use crate::view_parts::ViewPart;
 use lg_base::{Feed, Stop};
-use lg_containers::{Canonical, feed_all};
+use lg_containers::{Canonical, Shared, feed_all};
 use lg_types::{Part, RecordPart};
 use lg_views::{AccountView, AccountVolumes, AssetVolumes, TransactionView};
 
@@ -60,14 +60,14 @@ fn feed_assets<F: Feed>(name: &[u8], volumes: &Option<AssetVolumes>, to: &mut F)
 /// Feeds a member with volumes of accounts, and nothing where there are none.
 fn feed_accounts<F: Feed>(
     name: &[u8],
-    volumes: &Option<AccountVolumes>,
+    volumes: &Option<Shared<AccountVolumes>>,
     to: &mut F,
 ) -> Result<(), Stop>
     ensures { Feeds F.Feed to.old to.new (accounts_member name.now volumes.now) result }
 {
     match volumes {
         None => to.piece(b""),
-        Some(volumes) => feed_named(name, volumes, to),
+        Some(volumes) => feed_named(name, volumes.get(), to),
     }
 }
 

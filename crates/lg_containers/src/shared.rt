@@ -2,6 +2,7 @@
 
 ghost use Rattle.std.specs.Prelude.{◌≡◌, IfOk};
 
+use crate::duplicate::Duplicate;
 use lg_base::NoMemory;
 use std::alloc::Global;
 use std::marker::Model;
@@ -48,5 +49,12 @@ impl<T: Drop> Shared<T> {
         ensures { result.now ≡ self.now }
     {
         &self.value
+    }
+}
+
+/// A copy is one more owner.
+impl<T: Drop> Duplicate for Shared<T> {
+    fn copy(&self, _alloc: Global) -> Result<Shared<T>, NoMemory> {
+        self.share()
     }
 }

@@ -2,7 +2,7 @@
 
 use crate::{AccountVolumes, AssetVolumes};
 use lg_base::{NoMemory, Volumes};
-use lg_containers::{Address, Asset, Duplicate, Meta, Reference};
+use lg_containers::{Address, Asset, Duplicate, Meta, Reference, Shared};
 use lg_types::Postings;
 use std::alloc::Global;
 
@@ -21,13 +21,13 @@ pub struct TransactionView {
     /// The date of the reverting entry, there exactly where it is reverted.
     pub reverted_at: Option<i64>,
     /// The volumes of its accounts over all transactions of smaller ids.
-    pub pre_commit_volumes: Option<AccountVolumes>,
+    pub pre_commit_volumes: Option<Shared<AccountVolumes>>,
     /// The same with its own postings.
-    pub post_commit_volumes: Option<AccountVolumes>,
+    pub post_commit_volumes: Option<Shared<AccountVolumes>>,
     /// The volumes of its accounts over all transactions whose pair of effective date and id is smaller.
-    pub pre_commit_effective_volumes: Option<AccountVolumes>,
+    pub pre_commit_effective_volumes: Option<Shared<AccountVolumes>>,
     /// The same with its own postings.
-    pub post_commit_effective_volumes: Option<AccountVolumes>,
+    pub post_commit_effective_volumes: Option<Shared<AccountVolumes>>,
 }
 
 /// An account, as a reply shows it.
