@@ -17,11 +17,11 @@ use crate::ledger_index::{LedgerIndex, push_within};
 use crate::ledgers::find_ledger;
 use crate::opening::first_ledger;
 use crate::readings::{
-    counted, date_in, entry_in, history_in, info_in, inserted_in, last_hash_in, reply_in,
+    counted, date_in, entry_in, event_at, history_in, info_in, inserted_in, last_hash_in, reply_in,
     reverted_in, transaction_in,
 };
 use crate::volumes::FirstVolumes;
-use lg_containers::{Duplicate, LedgerName};
+use lg_containers::{LedgerName, Shared};
 use lg_meta::MetaHistory;
 use lg_turns::Journal;
 use lg_types::{Entry, Event, LedgerInfo, NoMemory, Target, Transaction, bring};
@@ -36,7 +36,7 @@ use std::marker::Model;
 pub struct Book {
     alloc: Global,
     // The events that were added, and then the prepared ones.
-    events: Vec<Event>,
+    events: Vec<Shared<Event>>,
     added: usize,
     // In the byte order of the names.
     ledgers: Vec<(LedgerName, LedgerIndex)>,
@@ -59,10 +59,11 @@ impl Book {
     pub fn opened(alloc: Global) -> Result<Book, NoMemory>
         ensures { IfOk result (λ book. book ≡ record { events = first_events; prepared = [] }) }
     {
-        let event = Event::Made(first_ledger(alloc)?);
+        let event = Shared::new(alloc, Event::Made(first_ledger(alloc)?))?;
+        let volumes = Shared::new(alloc, FirstVolumes::none(alloc))?;
         let mut book = Book::empty(alloc);
-        book.prepare(&event, FirstVolumes::none(alloc))?;
-        book.apply(event);
+        book.prepare(&event, &volumes)?;
+        book.apply(event.get());
         Ok(book)
     }
 
@@ -90,7 +91,7 @@ impl Book {
         ensures { option_copied result ≡ slice_get self.now.events place }
     {
         if place < self.added as u64 {
-            self.events.get(place as usize)
+            event_at(&self.events, place as usize)
         } else {
             None
         }
@@ -212,18 +213,22 @@ impl Book {
 
     /// Prepares the event, as the last of those that are prepared: takes all the memory that adding it needs. The
     /// volumes are those of its transaction right after it.
-    pub fn prepare(&mut self, event: &Event, volumes: FirstVolumes) -> Result<(), NoMemory>
+    pub fn prepare(
+        &mut self,
+        event: &Shared<Event>,
+        volumes: &Shared<FirstVolumes>,
+    ) -> Result<(), NoMemory>
         requires follows { MayFollow (self.old.events ++ self.old.prepared) event.now }
-        requires volumes { volumes ≡ volumes_after (self.old.events ++ self.old.prepared) event.now }
+        requires volumes { volumes.now ≡ volumes_after (self.old.events ++ self.old.prepared) event.now }
         ensures ok { OnOk result (self.new ≡ record { events = self.old.events; prepared = self.old.prepared ++ event.now ∷ [] }) }
         ensures err { OnErr result (self.new ≡ self.old) }
         ensures room { length self.new.events + length self.new.prepared < 2 ^ 64 }
     {
-        let copied = event.copy(self.alloc)?;
+        let shared = event.share()?;
         self.events.reserve(1)?;
         let place = self.events.len();
-        prepare_event(self.alloc, &mut self.ledgers, place, event, volumes)?;
-        push_within(&mut self.events, copied);
+        prepare_event(self.alloc, &mut self.ledgers, place, event.get(), volumes)?;
+        push_within(&mut self.events, shared);
         Ok(())
     }
 
@@ -236,13 +241,12 @@ impl Book {
     }
 
     /// Adds the first prepared event, which is the one given. Takes no memory.
-    pub fn apply(&mut self, event: Event)
-        requires { slice_get self.old.prepared 0 ≡ Some event }
-        ensures { self.new ≡ record { events = self.old.events ++ event ∷ []; prepared = drop 1 self.old.prepared } }
+    pub fn apply(&mut self, event: &Event)
+        requires { slice_get self.old.prepared 0 ≡ Some event.now }
+        ensures { self.new ≡ record { events = self.old.events ++ event.now ∷ []; prepared = drop 1 self.old.prepared } }
     {
-        add_event(&mut self.ledgers, &event);
+        add_event(&mut self.ledgers, event);
         self.added += 1;
-        drop(event);
     }
 }
 

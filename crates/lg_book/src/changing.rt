@@ -9,7 +9,7 @@ use crate::ledgers::{
     add_logged, add_made, forget_logged, forget_made, prepare_logged, prepare_made,
 };
 use crate::volumes::FirstVolumes;
-use lg_containers::LedgerName;
+use lg_containers::{LedgerName, Shared};
 use lg_types::{Event, NoMemory};
 use std::alloc::Global;
 
@@ -19,11 +19,11 @@ pub(crate) fn prepare_event(
     ledgers: &mut Vec<(LedgerName, LedgerIndex)>,
     place: usize,
     event: &Event,
-    volumes: FirstVolumes,
+    volumes: &Shared<FirstVolumes>,
 ) -> Result<(), NoMemory>
     requires order { IsTrue (is_in_order ledgers.old.items) }
     requires may { CanPrepareEvent ledgers.old.items event.now }
-    ensures ok { OnOk result (ledgers.new.items ≡ event_prepared place event.now volumes ledgers.old.items) }
+    ensures ok { OnOk result (ledgers.new.items ≡ event_prepared place event.now volumes.now ledgers.old.items) }
     ensures err { OnErr result (ledgers.new.items ≡ ledgers.old.items) }
 {
     match event {
@@ -58,11 +58,11 @@ fn forget_event(ledgers: &mut Vec<(LedgerName, LedgerIndex)>, event: &Event)
 }
 
 /// Gives up the prepared events.
-pub(crate) fn forget_events(ledgers: &mut Vec<(LedgerName, LedgerIndex)>, events: &[Event])
+pub(crate) fn forget_events(ledgers: &mut Vec<(LedgerName, LedgerIndex)>, events: &[Shared<Event>])
     requires { IsTrue (is_in_order ledgers.old.items) }
     ensures { ledgers.new.items ≡ events_forgotten events.now ledgers.old.items }
 {
     for event in events {
-        forget_event(ledgers, event);
+        forget_event(ledgers, event.get());
     }
 }

@@ -10,6 +10,7 @@ use crate::records::{
     EntryRecord, TransactionRecord, add_to_records, forget_in_records, prepare_records,
 };
 use crate::volumes::FirstVolumes;
+use lg_containers::Shared;
 use lg_types::{Entry, EntryBody, NoMemory};
 use std::alloc::Global;
 use std::marker::Model;
@@ -102,15 +103,20 @@ impl LedgerIndex {
         alloc: Global,
         place: usize,
         entry: &Entry,
-        volumes: FirstVolumes,
+        volumes: &Shared<FirstVolumes>,
     ) -> Result<(), NoMemory>
         requires { CanPrepare self.old.transactions entry.now.body }
-        ensures ok { OnOk result (self.new ≡ index_prepared place entry.now volumes self.old) }
+        ensures ok { OnOk result (self.new ≡ index_prepared place entry.now volumes.now self.old) }
         ensures err { OnErr result (self.new ≡ self.old) }
     {
+        let shared = volumes.share()?;
         self.entries.reserve(1)?;
         prepare_records(alloc, &mut self.transactions, place, &entry.body)?;
-        push_within(&mut self.entries, EntryRecord { place, volumes });
+        let record = EntryRecord {
+            place,
+            volumes: shared,
+        };
+        push_within(&mut self.entries, record);
         Ok(())
     }
 

@@ -9,7 +9,7 @@ ghost use Rattle.lg_book.specs.Index.{CanAdd, CanPrepare, index_added, index_for
 
 use crate::ledger_index::LedgerIndex;
 use crate::volumes::FirstVolumes;
-use lg_containers::{Duplicate, LedgerName};
+use lg_containers::{Duplicate, LedgerName, Shared};
 use lg_types::{Entry, EntryBody, NoMemory};
 use std::alloc::Global;
 use std::cmp::Ordering;
@@ -70,11 +70,11 @@ pub(crate) fn prepare_logged(
     name: &LedgerName,
     place: usize,
     entry: &Entry,
-    volumes: FirstVolumes,
+    volumes: &Shared<FirstVolumes>,
 ) -> Result<(), NoMemory>
     requires order { IsTrue (is_in_order ledgers.old.items) }
     requires may { IfSome (find_pair name_order name.now ledgers.old.items) (λ x. CanPrepare x.transactions entry.now.body) }
-    ensures ok { OnOk result (ledgers.new.items ≡ put_changed name.now (index_prepared place entry.now volumes) ledgers.old.items) }
+    ensures ok { OnOk result (ledgers.new.items ≡ put_changed name.now (index_prepared place entry.now volumes.now) ledgers.old.items) }
     ensures err { OnErr result (ledgers.new.items ≡ ledgers.old.items) }
 {
     match place_of(ledgers, name.bytes()) {

@@ -14,6 +14,7 @@ ghost use Rattle.lg_book.specs.Index.{by_id, date_by_entry, entry_by_record, ent
 use crate::ledger_index::LedgerIndex;
 use crate::records::EntryRecord;
 use crate::replies::reply_of;
+use lg_containers::Shared;
 use lg_meta::MetaHistory;
 use lg_types::{Entry, EntryBody, Event, LedgerInfo, NoMemory, Transaction, bring};
 use lg_views::Reply;
@@ -26,10 +27,20 @@ pub(crate) fn counted(there: bool, count: usize) -> Option<u64>
     if there { Some(count as u64) } else { None }
 }
 
-fn entry_at(events: &[Event], place: usize) -> Option<&Entry>
-    ensures { option_copied result ≡ entry_there (slice_get events.now place) }
+/// The event at the place, added or prepared.
+pub(crate) fn event_at(events: &[Shared<Event>], place: usize) -> Option<&Event>
+    ensures { option_copied result ≡ slice_get events.now place }
 {
     match events.get(place) {
+        None => None,
+        Some(event) => Some(event.get()),
+    }
+}
+
+fn entry_at(events: &[Shared<Event>], place: usize) -> Option<&Entry>
+    ensures { option_copied result ≡ entry_there (slice_get events.now place) }
+{
+    match event_at(events, place) {
         None => None,
         Some(event) => entry_of(event),
     }
@@ -53,17 +64,20 @@ fn info_of(event: &Event) -> Option<&LedgerInfo>
     }
 }
 
-fn info_at(events: &[Event], place: usize) -> Option<&LedgerInfo>
+fn info_at(events: &[Shared<Event>], place: usize) -> Option<&LedgerInfo>
     ensures { option_copied result ≡ info_there (slice_get events.now place) }
 {
-    match events.get(place) {
+    match event_at(events, place) {
         None => None,
         Some(event) => info_of(event),
     }
 }
 
 /// The record of a ledger that was added.
-pub(crate) fn info_in<'a>(events: &'a [Event], index: &LedgerIndex) -> Option<&'a LedgerInfo>
+pub(crate) fn info_in<'a>(
+    events: &'a [Shared<Event>],
+    index: &LedgerIndex,
+) -> Option<&'a LedgerInfo>
     ensures { option_copied result ≡ info_if index.now.there (slice_get events.now index.now.made) }
 {
     if index.is_there() {
@@ -74,7 +88,11 @@ pub(crate) fn info_in<'a>(events: &'a [Event], index: &LedgerIndex) -> Option<&'
 }
 
 /// The entry of the id, of those that were added.
-pub(crate) fn entry_in<'a>(events: &'a [Event], index: &LedgerIndex, id: u64) -> Option<&'a Entry>
+pub(crate) fn entry_in<'a>(
+    events: &'a [Shared<Event>],
+    index: &LedgerIndex,
+    id: u64,
+) -> Option<&'a Entry>
     ensures { option_copied result ≡ entry_by_record events.now (by_id (take index.now.logged index.now.entries) id) }
 {
     match index.entry_record(id) {
@@ -84,7 +102,7 @@ pub(crate) fn entry_in<'a>(events: &'a [Event], index: &LedgerIndex, id: u64) ->
 }
 
 /// The entry that made the transaction of the id, of those that were added.
-fn made_in<'a>(events: &'a [Event], index: &LedgerIndex, id: u64) -> Option<&'a Entry>
+fn made_in<'a>(events: &'a [Shared<Event>], index: &LedgerIndex, id: u64) -> Option<&'a Entry>
     ensures { option_copied result ≡ made_by_record events.now (by_id (take index.now.transacted index.now.transactions) id) }
 {
     match index.transaction_record(id) {
@@ -106,7 +124,7 @@ fn transaction_of(body: &EntryBody) -> Option<&Transaction>
 
 /// The transaction of the id, of those that were added.
 pub(crate) fn transaction_in<'a>(
-    events: &'a [Event],
+    events: &'a [Shared<Event>],
     index: &LedgerIndex,
     id: u64,
 ) -> Option<&'a Transaction>
@@ -119,7 +137,7 @@ pub(crate) fn transaction_in<'a>(
 }
 
 /// The date of the entry of a transaction that was added.
-pub(crate) fn inserted_in(events: &[Event], index: &LedgerIndex, id: u64) -> Option<i64>
+pub(crate) fn inserted_in(events: &[Shared<Event>], index: &LedgerIndex, id: u64) -> Option<i64>
     ensures { result ≡ date_by_entry (made_by_record events.now (by_id (take index.now.transacted index.now.transactions) id)) }
 {
     match made_in(events, index, id) {
@@ -149,14 +167,14 @@ pub(crate) fn history_in(index: &LedgerIndex, id: u64) -> Option<&MetaHistory>
 }
 
 /// The last entry that was added.
-pub(crate) fn last_in<'a>(events: &'a [Event], index: &LedgerIndex) -> Option<&'a Entry>
+pub(crate) fn last_in<'a>(events: &'a [Shared<Event>], index: &LedgerIndex) -> Option<&'a Entry>
     ensures { option_copied result ≡ entry_by_record events.now (by_id (take index.now.logged index.now.entries) index.now.logged) }
 {
     entry_in(events, index, index.logged() as u64)
 }
 
 /// The hash of the last entry that was added.
-pub(crate) fn last_hash_in(events: &[Event], index: &LedgerIndex) -> Option<[u8; 32]>
+pub(crate) fn last_hash_in(events: &[Shared<Event>], index: &LedgerIndex) -> Option<[u8; 32]>
     ensures { result ≡ option_map entry_hash (entry_by_record events.now (by_id (take index.now.logged index.now.entries) index.now.logged)) }
 {
     match last_in(events, index) {
@@ -166,7 +184,7 @@ pub(crate) fn last_hash_in(events: &[Event], index: &LedgerIndex) -> Option<[u8;
 }
 
 /// The date of an entry after the last one.
-pub(crate) fn date_in(events: &[Event], index: &LedgerIndex, now: i64) -> i64
+pub(crate) fn date_in(events: &[Shared<Event>], index: &LedgerIndex, now: i64) -> i64
     ensures { result ≡ date_after_entry (entry_by_record events.now (by_id (take index.now.logged index.now.entries) index.now.logged)) now }
 {
     match last_in(events, index) {
@@ -185,7 +203,7 @@ fn later(last: i64, now: i64) -> i64
 /// The first reply of the entry of the id, of those that were added.
 pub(crate) fn reply_in(
     alloc: Global,
-    events: &[Event],
+    events: &[Shared<Event>],
     index: &LedgerIndex,
     id: u64,
 ) -> Result<Reply, NoMemory>
@@ -198,12 +216,16 @@ pub(crate) fn reply_in(
     }
 }
 
-fn reply_by_record(alloc: Global, events: &[Event], kept: &EntryRecord) -> Result<Reply, NoMemory>
+fn reply_by_record(
+    alloc: Global,
+    events: &[Shared<Event>],
+    kept: &EntryRecord,
+) -> Result<Reply, NoMemory>
     requires { IsSome (entry_there (slice_get events.now kept.now.place)) }
     ensures { IfOk result (λ reply. IfSome (entry_there (slice_get events.now kept.now.place)) (λ e. (g : List Entry) → kept.now.volumes ≡ entry_volumes g e → reply ≡ plain (first_reply g e))) }
 {
     match entry_at(events, kept.place) {
         None => unreachable!(),
-        Some(entry) => reply_of(alloc, entry, &kept.volumes),
+        Some(entry) => reply_of(alloc, entry, kept.volumes.get()),
     }
 }

@@ -4,7 +4,7 @@ ghost use Rattle.std.specs.Prelude.{◌≡◌, ◌-◌, ◌++◌, ◌∷◌, [],
 ghost use Rattle.lg_book.specs.Index.{CanAddTo, CanChange, CanChangeTarget, CanPrepare, HasTarget, IsIdIn, changed_at, new_record, records_added, records_forgotten, records_prepared, target_added, target_forgotten, target_prepared, with_first_applied, with_none_prepared, with_prepared, with_reverted_by};
 
 use crate::volumes::FirstVolumes;
-use lg_containers::{Duplicate, Meta, Text};
+use lg_containers::{Duplicate, Meta, Shared, Text};
 use lg_meta::MetaHistory;
 use lg_types::{EntryBody, MetaChange, NoMemory, Target, Transaction};
 use std::alloc::Global;
@@ -13,7 +13,7 @@ use std::alloc::Global;
 #[derive(Drop)]
 pub(crate) struct EntryRecord {
     pub(crate) place: usize,
-    pub(crate) volumes: FirstVolumes,
+    pub(crate) volumes: Shared<FirstVolumes>,
 }
 
 /// Where the entry of a transaction stands among the events, the transaction that reverts it, and its metadata.

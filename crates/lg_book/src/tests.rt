@@ -5,7 +5,7 @@ ghost use Rattle.lg_types.specs.Log.{first_events};
 ghost use Rattle.lg_book.specs.Examples.{deposit, deposit_volumes as volumes_of_deposit, one_asset, two_accounts, usd, user, world};
 
 use crate::{Book, FirstVolumes};
-use lg_containers::{AccountMeta, Address, Asset, LedgerName, Meta, Name};
+use lg_containers::{AccountMeta, Address, Asset, LedgerName, Meta, Name, Shared};
 use lg_types::{
     Amount, Entry, EntryBody, Event, NoMemory, Posting, Postings, Transaction, Volumes,
 };
@@ -79,7 +79,7 @@ fn payment(alloc: Global, amount: Amount) -> Result<Postings, Fail>
 }
 
 // A payment of 100 USD/2 from outside to users:1, as the first entry.
-fn deposit_event(alloc: Global, amount: Amount, hash: [u8; 32]) -> Result<Event, Fail>
+fn deposit_event(alloc: Global, amount: Amount, hash: [u8; 32]) -> Result<Shared<Event>, Fail>
     requires { amount ≡ 100 }
     ensures { IfOk result (λ event. event ≡ deposit hash) }
 {
@@ -102,7 +102,7 @@ fn deposit_event(alloc: Global, amount: Amount, hash: [u8; 32]) -> Result<Event,
         body,
         hash,
     };
-    Ok(Event::Logged { ledger, entry })
+    Ok(Shared::new(alloc, Event::Logged { ledger, entry })?)
 }
 
 fn in_dollars(alloc: Global, volumes: Volumes) -> Result<AssetVolumes, Fail>
@@ -122,7 +122,7 @@ fn of_both(alloc: Global, own: Volumes, outside: Volumes) -> Result<AccountVolum
     Ok(map)
 }
 
-fn deposit_volumes(alloc: Global) -> Result<FirstVolumes, Fail>
+fn deposit_volumes(alloc: Global) -> Result<Shared<FirstVolumes>, Fail>
     ensures { IfOk result (λ volumes. volumes ≡ volumes_of_deposit) }
 {
     let none = Volumes {
@@ -141,12 +141,13 @@ fn deposit_volumes(alloc: Global) -> Result<FirstVolumes, Fail>
     let post_commit_volumes = of_both(alloc, taken, given)?;
     let pre_commit_effective_volumes = of_both(alloc, none, none)?;
     let post_commit_effective_volumes = of_both(alloc, taken, given)?;
-    Ok(FirstVolumes {
+    let volumes = FirstVolumes {
         pre_commit_volumes,
         post_commit_volumes,
         pre_commit_effective_volumes,
         post_commit_effective_volumes,
-    })
+    };
+    Ok(Shared::new(alloc, volumes)?)
 }
 
 fn hundred() -> Result<Amount, Fail>
@@ -164,10 +165,11 @@ fn with_deposit(alloc: Global, hash: [u8; 32]) -> Result<Book, Fail>
 {
     let mut book = Book::opened(alloc)?;
     let event = deposit_event(alloc, hundred()?, hash)?;
-    book.prepare(&event, deposit_volumes(alloc)?)?;
+    let volumes = deposit_volumes(alloc)?;
+    book.prepare(&event, &volumes)?;
     book.forget();
-    book.prepare(&event, deposit_volumes(alloc)?)?;
-    book.apply(event);
+    book.prepare(&event, &volumes)?;
+    book.apply(event.get());
     Ok(book)
 }
 

@@ -1,23 +1,17 @@
 //! Events of a plan on the book.
 
-ghost use Rattle.std.specs.Prelude.{◌≡◌, ◌+◌, ◌^◌, ◌<◌, ◌++◌, [], ◌∷◌, length, OnOk, OnErr, IfOk};
+ghost use Rattle.std.specs.Prelude.{◌≡◌, ◌+◌, ◌^◌, ◌<◌, ◌++◌, [], ◌∷◌, length, OnOk, OnErr};
 ghost use Rattle.lg_book.specs.FirstVolumes.{volumes_after};
 ghost use Rattle.lg_book.specs.Following.{MayFollow};
 ghost use Rattle.lg_plan.specs.Events.{AllPrepare};
 ghost use Rattle.lg_plan.specs.Steps.{events_in, volumes_in};
 
 use crate::step::Step;
-use lg_book::{Book, FirstVolumes};
-use lg_containers::Duplicate;
+use lg_book::Book;
 use lg_types::NoMemory;
-use std::alloc::Global;
 
 /// Prepares the events on the book, each with its volumes.
-pub(crate) fn prepare_on_book(
-    alloc: Global,
-    steps: &[Step],
-    book: &mut Book,
-) -> Result<(), NoMemory>
+pub(crate) fn prepare_on_book(steps: &[Step], book: &mut Book) -> Result<(), NoMemory>
     requires clean { book.old.prepared ≡ [] }
     requires fits { AllPrepare book.old.events (events_in steps.now) (volumes_in steps.now) }
     ensures ok { OnOk result (book.new ≡ record { events = book.old.events; prepared = events_in steps.now }) }
@@ -26,7 +20,7 @@ pub(crate) fn prepare_on_book(
 {
     let _count = book.len();
     for i in 0..steps.len() {
-        match prepare_booked(alloc, &steps[i], book) {
+        match prepare_booked(&steps[i], book) {
             Ok(()) => {}
             Err(e) => {
                 book.forget();
@@ -37,26 +31,14 @@ pub(crate) fn prepare_on_book(
     Ok(())
 }
 
-fn prepare_booked(alloc: Global, step: &Step, book: &mut Book) -> Result<(), NoMemory>
+fn prepare_booked(step: &Step, book: &mut Book) -> Result<(), NoMemory>
     requires follows { MayFollow (book.old.events ++ book.old.prepared) step.now.event }
     requires volumes { step.now.volumes ≡ volumes_after (book.old.events ++ book.old.prepared) step.now.event }
     ensures ok { OnOk result (book.new ≡ record { events = book.old.events; prepared = book.old.prepared ++ step.now.event ∷ [] }) }
     ensures err { OnErr result (book.new ≡ book.old) }
     ensures room { OnOk result (length book.new.events + length book.new.prepared < 2 ^ 64) }
 {
-    let volumes = copy_volumes(alloc, &step.volumes)?;
-    book.prepare(&step.event, volumes)
-}
-
-fn copy_volumes(alloc: Global, volumes: &FirstVolumes) -> Result<FirstVolumes, NoMemory>
-    ensures { IfOk result (λ copied. copied ≡ volumes.now) }
-{
-    Ok(FirstVolumes {
-        pre_commit_volumes: volumes.pre_commit_volumes.copy(alloc)?,
-        post_commit_volumes: volumes.post_commit_volumes.copy(alloc)?,
-        pre_commit_effective_volumes: volumes.pre_commit_effective_volumes.copy(alloc)?,
-        post_commit_effective_volumes: volumes.post_commit_effective_volumes.copy(alloc)?,
-    })
+    book.prepare(&step.event, &step.volumes)
 }
 
 /// Adds the events to the book. Takes no memory.
@@ -65,7 +47,6 @@ pub(crate) fn add_to_book(steps: Vec<Step>, book: &mut Book)
     ensures { book.new ≡ record { events = book.old.events ++ events_in steps.items; prepared = [] } }
 {
     for step in steps {
-        let Step { event, .. } = step;
-        book.apply(event);
+        book.apply(step.event.get());
     }
 }

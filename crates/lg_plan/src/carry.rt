@@ -27,7 +27,7 @@ pub fn prepare_all(plan: &Plan, shards: &mut Vec<Shard>, book: &mut Book) -> Res
     ensures same_shards { OnErr result (AreShards book.old.events [] shards.new.items) }
 {
     prepare_on_shards(plan, shards)?;
-    match prepare_on_book(plan.alloc, &plan.steps, book) {
+    match prepare_on_book(&plan.steps, book) {
         Ok(()) => Ok(()),
         Err(e) => {
             forget_all(shards);

@@ -40,7 +40,7 @@ impl Change<Shard, Book> for Plan {
     }
 
     fn prepare_journal(&mut self, journal: &mut Book) -> Result<(), NoMemory> {
-        prepare_on_book(self.alloc, &self.steps, journal)
+        prepare_on_book(&self.steps, journal)
     }
 
     fn forget_part(&self, part: &mut Shard) {

@@ -7,6 +7,7 @@ ghost use Rattle.lg_plan.specs.Steps.{events_in};
 use crate::step::Step;
 use crate::stripes::{event_stripes, joined};
 use lg_book::FirstVolumes;
+use lg_containers::Shared;
 use lg_turns::StripeSet;
 use lg_types::{Event, Mark, NoMemory};
 use lg_views::Reply;
@@ -62,6 +63,8 @@ impl Plan {
         if u64::MAX - self.place <= count {
             return Err(NoMemory);
         }
+        let event = Shared::new(self.alloc, event)?;
+        let volumes = Shared::new(self.alloc, volumes)?;
         self.steps.push(Step {
             event,
             volumes,

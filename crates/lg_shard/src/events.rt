@@ -76,7 +76,11 @@ pub fn release_events(ledgers: &mut Ledgers, stripe: u8, events: &[KeptEvent])
     ensures { (shares : List Share) → LedgersTied ledgers.old shares (all_shares stripe (all_shown events.now)) → LedgersTied ledgers.new shares [] }
 {
     for count in 0..events.len() {
-        release_event(ledgers, stripe, &events[events.len() - 1 - count].event);
+        release_event(
+            ledgers,
+            stripe,
+            events[events.len() - 1 - count].event.get(),
+        );
     }
 }
 

@@ -12,7 +12,7 @@ use crate::kept::KeptEvent;
 use crate::ledgers::Ledgers;
 use crate::readers::{find_history, find_index, is_named_in, moved_assets, named_accounts};
 use crate::slots::Slots;
-use lg_containers::{Address, Asset, Duplicate, Key, LedgerName, List, NoMemory, Reference};
+use lg_containers::{Address, Asset, Key, LedgerName, List, NoMemory, Reference, Shared};
 use lg_keys::Kept;
 use lg_meta::MetaHistory;
 use lg_moves::MoveIndex;
@@ -24,8 +24,8 @@ use std::sync::ledger::{Blank, Ledger};
 
 /// The accounts, keys and references of one stripe.
 ///
-/// An event is prepared first, which takes all the memory that it needs, and applied later, which takes none. A copy of each
-/// event is kept.
+/// An event is prepared first, which takes all the memory that it needs, and applied later, which takes none. Each event
+/// is kept together with those who gave it.
 #[derive(Drop)]
 pub struct Shard {
     alloc: Global,
@@ -77,18 +77,24 @@ impl Shard {
     }
 
     /// Prepares the event, as the last of those that are prepared.
-    pub fn prepare(&mut self, event: &Event, place: u64) -> Result<(), NoMemory>
+    pub fn prepare(&mut self, event: &Shared<Event>, place: u64) -> Result<(), NoMemory>
         requires { Follows (coming_shares self.old) (shares_of self.old.stripe place event.now) }
         ensures ok { OnOk result (self.new ≡ record { stripe = self.old.stripe; shares = self.old.shares; prepared = self.old.prepared ++ placed place event.now ∷ [] }) }
         ensures err { OnErr result (self.new ≡ self.old) }
     {
-        let copied = event.copy(self.alloc)?;
+        let shared = event.share()?;
         self.events.reserve(1)?;
         let count = self.events.len() - self.applied + 1;
-        let names = prepare_event(self.alloc, &mut self.ledgers, self.stripe, event, count)?;
+        let names = prepare_event(
+            self.alloc,
+            &mut self.ledgers,
+            self.stripe,
+            event.get(),
+            count,
+        )?;
         let kept = KeptEvent {
             place,
-            event: copied,
+            event: shared,
             names,
         };
         push_kept(&mut self.events, kept);

@@ -1,7 +1,7 @@
 //! Stripes, and the calls of a shard with ample memory.
 
 use crate::{Class, Shard, stripe_of};
-use lg_containers::{Address, Asset, Bucket, Key, LedgerName, Meta, Name, Reference};
+use lg_containers::{Address, Asset, Bucket, Key, LedgerName, Meta, Name, Reference, Shared};
 use lg_types::{Event, LedgerInfo};
 use std::alloc::Global;
 use std::test::Fail;
@@ -38,12 +38,12 @@ fn made(alloc: Global) -> Result<LedgerInfo, Fail> {
 #[test]
 fn takes_an_event_without_resources(rt: HostRuntime) -> Result<(), Fail> {
     let alloc = rt.alloc();
-    let event = Event::Made(made(alloc)?);
+    let event = Shared::new(alloc, Event::Made(made(alloc)?))?;
     let mut shard = Shard::new(alloc, 3);
     shard.prepare(&event, 1)?;
     shard.forget();
     shard.prepare(&event, 1)?;
-    shard.apply(&event, 1);
+    shard.apply(event.get(), 1);
     assert_eq!(rt; shard.stripe(), 3);
     Ok(())
 }

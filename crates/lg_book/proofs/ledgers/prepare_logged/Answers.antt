@@ -13,9 +13,9 @@ prepare-requires c =
 pub returns-in-Ok-clause-ok : goal.returns-in-Ok-clause-ok
 returns-in-Ok-clause-ok c =
     let at : IsAt c.args.name.now c.args.ledgers.now.items c.in-Ok.at = rw (← c.deref.ensures.value, ← c.bytes.ensures.value) c.in-Ok.ensures in
-    on_ok c.prepare.result (λ made. changed_there c.args.name.now c.args.ledgers.now.items c.in-Ok.at c.index_mut-pair.result.now _ (index_prepared c.args.place c.args.entry.now c.args.volumes) at c.index_mut-pair.ensures.value made) c.prepare.ensures.ok
+    on_ok c.prepare.result (λ made. changed_there c.args.name.now c.args.ledgers.now.items c.in-Ok.at c.index_mut-pair.result.now _ (index_prepared c.args.place c.args.entry.now c.args.volumes.now) at c.index_mut-pair.ensures.value made) c.prepare.ensures.ok
 
 pub returns-in-Err-clause-ok : goal.returns-in-Err-clause-ok
 returns-in-Err-clause-ok c =
     let at : BelongsAt c.args.name.now c.args.ledgers.now.items c.in-Err.field-0 = rw (← c.deref.ensures.value, ← c.bytes.ensures.value) c.in-Err.ensures in
-    changed_nowhere c.args.name.now c.args.ledgers.now.items c.in-Err.field-0 (index_prepared c.args.place c.args.entry.now c.args.volumes) at
+    changed_nowhere c.args.name.now c.args.ledgers.now.items c.in-Err.field-0 (index_prepared c.args.place c.args.entry.now c.args.volumes.now) at

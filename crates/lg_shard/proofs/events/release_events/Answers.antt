@@ -1,4 +1,5 @@
-use Rattle.std.proofs.Common.{◌≡◌, ◌-◌, ◌+◌, ◌++◌, List, length, get_or, take, ap, subst, ◌∙◌, arith}
+use Rattle.std.proofs.Common.{◌≡◌, ◌-◌, ◌+◌, ◌++◌, List, length, get_or, take, sym, ap, subst, ◌∙◌, arith}
+use Rattle.lg_types.specs.declared.records.Event.{Event}
 use Rattle.lg_types.specs.Parts.{Share, shares_of}
 use Rattle.lg_shard.specs.Held.{all_shown}
 use Rattle.lg_shard.specs.State.{all_shares}
@@ -13,7 +14,8 @@ loop-count-preserved c shares tied =
     let same : left ≡ at = omega arith in
     c.release_event.ensures (get_or events at d).place shares (all_shares s (all_shown (take left events)))
     (subst (λ (l : List Share). LedgersTied c.loop-count.ledgers shares l)
-    (shares-last s events (length events - c.loop-count.count) left d (omega arith) (omega arith) ∙ ap (λ n. all_shares s (all_shown (take left events)) ++ shares_of s (get_or events n d).place (get_or events n d).event) same)
+    (shares-last s events (length events - c.loop-count.count) left d (omega arith) (omega arith) ∙ ap (λ n. all_shares s (all_shown (take left events)) ++ shares_of s (get_or events n d).place (get_or events n d).event) same
+    ∙ ap (λ (event : Event). all_shares s (all_shown (take left events)) ++ shares_of s (get_or events at d).place event) (sym c.get.ensures))
     (c.loop-count.invariant shares tied))
 
 pub returns : goal.returns

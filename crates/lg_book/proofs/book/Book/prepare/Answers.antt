@@ -17,12 +17,12 @@ prepare_event-requires-clause-may c =
 pub invariant_of-self-2 : goal.invariant_of-self-2
 invariant_of-self-2 c =
     let whole = whole_list c.self.inside.added c.self.inside.events.items c.args.self.now.events c.args.self.now.prepared (ap (λ (b : Booked). b.events) c.self.view_is) (ap (λ (b : Booked). b.prepared) c.self.view_is) in
-    let made : IsBook (c.self.inside.events.items ++ c.args.event.now ∷ []) c.self.inside.added (event_prepared (length c.self.inside.events.items) c.args.event.now c.args.volumes c.self.inside.ledgers.items) =
-    event_prepared_is c.self.inside.events.items c.self.inside.added c.self.inside.ledgers.items c.self.invariant c.args.event.now c.args.volumes
+    let made : IsBook (c.self.inside.events.items ++ c.args.event.now ∷ []) c.self.inside.added (event_prepared (length c.self.inside.events.items) c.args.event.now c.args.volumes.now c.self.inside.ledgers.items) =
+    event_prepared_is c.self.inside.events.items c.self.inside.added c.self.inside.ledgers.items c.self.invariant c.args.event.now c.args.volumes.now
     (subst (λ es. MayFollow es c.args.event.now) whole c.requires.follows) (c.requires.volumes ∙ ap (λ (es : List Event). volumes_after es c.args.event.now) whole) in
     let place : c.len-place.result ≡ length c.self.inside.events.items = c.len-place.ensures ∙ c.in_ok-reserve.ensures.len ∙ c.self.inside.events.ok.0 in
-    let items : c.push_within.new.items.items ≡ c.self.inside.events.items ++ c.args.event.now ∷ [] = c.push_within.ensures ∙ ap₂ (λ (l : List Event) (v : Event). l ++ v ∷ []) c.in_ok-reserve.ensures.items c.in_ok-copied.ensures in
-    let ledgers : c.prepare_event.new.ledgers.items ≡ event_prepared (length c.self.inside.events.items) c.args.event.now c.args.volumes c.self.inside.ledgers.items =
-    c.in_ok-prepare_event.ensures.ok ∙ ap (λ (n : ℕ). event_prepared n c.args.event.now c.args.volumes c.self.inside.ledgers.items) place in
+    let items : c.push_within.new.items.items ≡ c.self.inside.events.items ++ c.args.event.now ∷ [] = c.push_within.ensures ∙ ap₂ (λ (l : List Event) (v : Event). l ++ v ∷ []) c.in_ok-reserve.ensures.items c.in_ok-shared.ensures in
+    let ledgers : c.prepare_event.new.ledgers.items ≡ event_prepared (length c.self.inside.events.items) c.args.event.now c.args.volumes.now c.self.inside.ledgers.items =
+    c.in_ok-prepare_event.ensures.ok ∙ ap (λ (n : ℕ). event_prepared n c.args.event.now c.args.volumes.now c.self.inside.ledgers.items) place in
     subst (λ es. IsBook es c.self.inside.added c.prepare_event.new.ledgers.items) (sym items)
     (subst (λ ls. IsBook (c.self.inside.events.items ++ c.args.event.now ∷ []) c.self.inside.added ls) (sym ledgers) made)
