@@ -1,5 +1,5 @@
 -- What is found in accounts after a change of one of them.
-use Rattle.std.proofs.Common.{◌≡◌, ℕ, ◌<◌, length, arith, Bool, true, false, cond, ◌&&◌, List, Bor, is_some, Option, Some, None, IsSome, unwrap_or, Result, Ok, Err, OnOk, OnErr, Ordering, Less, Equal, Greater, refl, sym, ap, ap₂, subst, ◌∙◌}
+use Rattle.std.proofs.Common.{◌≡◌, ℕ, ◌+◌, ◌<◌, [], length, arith, Bool, true, false, cond, ◌&&◌, List, Bor, is_some, Option, Some, None, IsSome, unwrap_or, Result, Ok, Err, OnErr, Ordering, Less, Equal, Greater, refl, sym, ap, ap₂, subst, ◌∙◌}
 use Rattle.std.specs.Option.{option_copied}
 use Rattle.std.specs.Ordering.{is_eq, eq_by_cmp}
 use Rattle.std.specs.Cmp.{tied_itself}
@@ -9,10 +9,9 @@ use Rattle.std.proofs.lemmas.Slice.Eq.{bytes_eq-Decides}
 use Rattle.lg_containers.specs.NameOrder.{name_order}
 use Rattle.lg_containers.specs.NameTable.{NameTable, get, insert, empty, get-insert, get-empty, name_order-same}
 use Rattle.lg_meta.specs.History.{History}
-use Rattle.lg_types.specs.declared.changes.MetaChange.{MetaChange}
 use Rattle.lg_shard.specs.declared.accounts.AccountPart.{AccountPart}
 use Rattle.lg_shard.specs.declared.reserved.Reserved.{Reserved}
-use Rattle.lg_shard.specs.Accounts.{no_history, with_prepared, slot_in, items_of, history_in, slot_at, history_at, is_pair, SameHoldings}
+use Rattle.lg_shard.specs.Accounts.{no_history, slot_in, items_of, waiting_of, waiting_at, one_if, history_in, slot_at, history_at, is_pair, SameHoldings, SameRoom}
 
 -- ---- the order of names and the equality of their bytes
 
@@ -123,51 +122,66 @@ module _ {X : Type 0} (F : Option AccountPart → X) (t : NameTable AccountPart)
   pub part-changed : F (Some changed) ≡ F (Some part) → (a : List ℕ) → F (get (insert t n changed) a) ≡ F (get t a)
   part-changed h a = ap F (get-change t n changed a) ∙ part_or (get t a) (bytes_eq n a) h (λ e. ap (get t) (sym (bytes_same n a e)) ∙ there)
 
--- an account that is opened, then changes
-pub part-opened : {X : Type 0} (F : Option AccountPart → X) (t : NameTable AccountPart) (name : List ℕ) (fresh : AccountPart) (t1 : NameTable AccountPart) (n : List ℕ) (part changed : AccountPart)
-    → t1 ≡ insert t name (unwrap_or (get t name) fresh) → get t1 n ≡ Some part → F (Some fresh) ≡ F None → F (Some changed) ≡ F (Some part) → (a : List ℕ) → F (get (insert t1 n changed) a) ≡ F (get t a)
-part-opened F t name fresh t1 n part changed opened there new same a =
-    part-changed F t1 n part changed there same a ∙ ap (λ u. F (get u a)) opened ∙ get-opened F t name fresh a new
+-- ---- a name that is opened, and whose value changes
+
+module _ {V X : Type 0} (F : Option V → X) (t : NameTable V) (name : List ℕ) (fresh value changed : V) (is : value ≡ unwrap_or (get t name) fresh) (new : F (Some fresh) ≡ F None) where
+  opened_at : (q : List ℕ) → bytes_eq name q ≡ true → F (Some value) ≡ F (get t q)
+  opened_at q e = ap (λ v. F (Some v)) is ∙ opened_step F fresh (get t name) new ∙ ap (λ n. F (get t n)) (bytes_same name q e)
+
+  same_or : (o : Option V) (b : Bool) → F (Some changed) ≡ F (Some value) → (b ≡ true → F (Some value) ≡ F o) → F (cond b (Some changed) o) ≡ F o
+  same_or o true same at = same ∙ at refl
+  same_or o false same at = refl
+
+  -- what stays of its value stays everywhere
+  pub opened-same : F (Some changed) ≡ F (Some value) → (q : List ℕ) → F (get (insert t name changed) q) ≡ F (get t q)
+  opened-same same q = ap F (get-change t name changed q) ∙ same_or (get t q) (bytes_eq name q) same (opened_at q)
+
+  mapped_or : (f : X → X) (o : Option V) (b : Bool) → F (Some changed) ≡ f (F (Some value)) → (b ≡ true → F (Some value) ≡ F o) → F (cond b (Some changed) o) ≡ cond b (f (F o)) (F o)
+  mapped_or f o true more at = more ∙ ap f (at refl)
+  mapped_or f o false more at = refl
+
+  -- what changes of its value changes at the name alone
+  pub opened-mapped : (f : X → X) → F (Some changed) ≡ f (F (Some value)) → (q : List ℕ) → F (get (insert t name changed) q) ≡ cond (bytes_eq name q) (f (F (get t q))) (F (get t q))
+  opened-mapped f more q = ap F (get-change t name changed q) ∙ mapped_or f (get t q) (bytes_eq name q) more (opened_at q)
 
 pub slot-empty : (assets : NameTable Reserved) (s : List ℕ) → assets ≡ empty → get assets s ≡ None
 slot-empty assets s h = ap (λ u. get u s) h ∙ get-empty Reserved s
 
-some_there : {V : Type 0} (o : Option V) (v : V) → o ≡ Some v → IsSome o
-some_there None v h = cc
-some_there (Some w) v h = refl
+-- ---- a slot of an account, both opened
 
--- what was opened is there
-pub opened_there : {V : Type 0} (t t1 : NameTable V) (name n : List ℕ) (fresh : V) → n ≡ name → t1 ≡ insert t name (unwrap_or (get t name) fresh) → IsSome (get t1 n)
-opened_there t t1 name n fresh e opened =
-    some_there _ _ (ap₂ get opened e ∙ get-change t name _ name ∙ ap (λ b. cond b (Some (unwrap_or (get t name) fresh)) (get t name)) (bytes_itself name))
+raised : (a b : Bool) (n : ℕ) → cond a (cond b (n + 1) n) n ≡ n + one_if (a && b)
+raised true true n = refl
+raised true false n = omega arith
+raised false b n = omega arith
 
--- the slot that was opened in the account's part
-pub slot_opened : (t1 : NameTable AccountPart) (n account asset : List ℕ) (part changed : AccountPart) (fresh : Reserved) → n ≡ account → changed.assets ≡ insert part.assets asset (unwrap_or (get part.assets asset) fresh)
-    → IsSome (slot_at (insert t1 n changed) account asset)
-slot_opened t1 n account asset part changed fresh e opened =
-    let here : get (insert t1 n changed) account ≡ Some changed = ap (get (insert t1 n changed)) (sym e) ∙ get-change t1 n changed n ∙ ap (λ b. cond b (Some changed) (get t1 n)) (bytes_itself n) in
-    let P : Option AccountPart → Type 0 = λ o. IsSome (slot_in o asset) in
-    subst P (sym here) (opened_there part.assets changed.assets asset asset fresh refl opened)
+module _ (t : NameTable AccountPart) (account asset : List ℕ) (fresh part : AccountPart) (is : part ≡ unwrap_or (get t account) fresh)
+    (no_assets : fresh.assets ≡ empty) (unchanged : fresh.history ≡ no_history)
+    (empty_slot slot w : Reserved) (found : slot ≡ unwrap_or (get part.assets asset) empty_slot)
+    (no_items : empty_slot.index.items ≡ []) (no_waiting : empty_slot.waiting ≡ 0) where
+  pub opened-holdings : w.index.items ≡ slot.index.items → SameHoldings t (insert t account (record part { assets = insert part.assets asset w }))
+  opened-holdings h = record {
+    items = λ a s. opened-same (λ o. items_of (slot_in o s)) t account fresh part _ is (ap items_of (slot-empty _ s no_assets)) (opened-same items_of part.assets asset empty_slot slot w found no_items h s) a;
+    histories = λ a. opened-same history_in t account fresh part _ is unchanged refl a;
+  }
 
--- the history that takes a prepared change
-module _ (t : NameTable AccountPart) (name : List ℕ) (fresh : AccountPart) (t1 : NameTable AccountPart) (n : List ℕ) (part changed : AccountPart) (change : MetaChange)
-    (e : n ≡ name) (opened : t1 ≡ insert t name (unwrap_or (get t name) fresh)) (there : get t1 n ≡ Some part) (new : fresh.history ≡ no_history) (is : changed.history ≡ with_prepared part.history change) where
-  prepared_or : (b : Bool) (o p : Option AccountPart) → history_in o ≡ history_in p → (b ≡ true → o ≡ Some part)
-      → history_in (cond b (Some changed) o) ≡ cond b (with_prepared (history_in p) change) (history_in p)
-  prepared_or true o p h same = is ∙ ap (λ q. with_prepared (history_in q) change) (sym (same refl)) ∙ ap (λ k. with_prepared k change) h
-  prepared_or false o p h same = h
+  pub opened-room : w.waiting ≡ slot.waiting → SameRoom t (insert t account (record part { assets = insert part.assets asset w }))
+  opened-room h a s = opened-same (λ o. waiting_of (slot_in o s)) t account fresh part _ is (ap waiting_of (slot-empty _ s no_assets)) (opened-same waiting_of part.assets asset empty_slot slot w found no_waiting h s) a
 
-  pub history-prepared : (a : List ℕ) → history_at (insert t1 n changed) a ≡ cond (bytes_eq name a) (with_prepared (history_at t a) change) (history_at t a)
-  history-prepared a =
-      ap history_in (get-change t1 n changed a)
-      ∙ prepared_or (bytes_eq n a) (get t1 a) (get t a) (ap (λ u. history_in (get u a)) opened ∙ get-opened history_in t name fresh a new) (λ h. ap (get t1) (sym (bytes_same n a h)) ∙ there)
-      ∙ ap (λ x. cond (bytes_eq x a) (with_prepared (history_at t a) change) (history_at t a)) e
+  pub opened-raised : w.waiting ≡ slot.waiting + 1 → (a s : List ℕ) → waiting_at (insert t account (record part { assets = insert part.assets asset w })) a s ≡ waiting_at t a s + one_if (is_pair account asset a s)
+  opened-raised h a s =
+      opened-mapped (λ o. waiting_of (slot_in o s)) t account fresh part _ is (ap waiting_of (slot-empty _ s no_assets)) (λ n. cond (bytes_eq asset s) (n + 1) n) (opened-mapped waiting_of part.assets asset empty_slot slot w found no_waiting (λ n. n + 1) h s) a
+      ∙ raised (bytes_eq account a) (bytes_eq asset s) (waiting_at t a s)
 
--- assets that were opened, or left as they were
-pub assets-opened : {X T E : Type 0} (f : Option Reserved → X) (r : Result T E) (assets changed : NameTable Reserved) (asset : List ℕ) (fresh : Reserved)
-    → OnOk r (changed ≡ insert assets asset (unwrap_or (get assets asset) fresh)) → OnErr r (changed ≡ assets) → f (Some fresh) ≡ f None → (s : List ℕ) → f (get changed s) ≡ f (get assets s)
-assets-opened f (Ok u) assets changed asset fresh ok err h s = ap (λ t. f (get t s)) ok ∙ get-opened f assets asset fresh s h
-assets-opened f (Err u) assets changed asset fresh ok err h s = ap (λ t. f (get t s)) err
+-- an account that is opened and stays as it is
+module _ (t : NameTable AccountPart) (account : List ℕ) (fresh part : AccountPart) (is : part ≡ unwrap_or (get t account) fresh) (no_assets : fresh.assets ≡ empty) (unchanged : fresh.history ≡ no_history) where
+  pub account-holdings : SameHoldings t (insert t account part)
+  account-holdings = record {
+    items = λ a s. opened-same (λ o. items_of (slot_in o s)) t account fresh part part is (ap items_of (slot-empty _ s no_assets)) refl a;
+    histories = λ a. opened-same history_in t account fresh part part is unchanged refl a;
+  }
+
+  pub account-room : SameRoom t (insert t account part)
+  account-room a s = opened-same (λ o. waiting_of (slot_in o s)) t account fresh part part is (ap waiting_of (slot-empty _ s no_assets)) refl a
 
 -- the history of an account that is there changes
 module _ (t : NameTable AccountPart) (name n : List ℕ) (e : n ≡ name) (part changed : AccountPart) (there : get t n ≡ Some part) (f : History → History) (is : changed.history ≡ f part.history) where
@@ -201,3 +215,8 @@ part-history t name n e part there = ap (λ x. history_at t x) (sym e) ∙ ap hi
 pub copied-none : {V : Type 0} (o : Option (Bor V)) (p : Option V) → option_copied o ≡ p → is_some o ≡ false → p ≡ None
 copied-none None p e h = sym e
 copied-none (Some v) p e h = absurd (let f : true ≡ false = h in cc)
+
+-- what holds in any case holds after an error
+pub on_err_given : {T E X : Type 0} (r : Result T E) → X → OnErr r X
+on_err_given (Ok v) x = tt
+on_err_given (Err e) x = x

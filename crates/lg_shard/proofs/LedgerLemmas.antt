@@ -17,6 +17,7 @@ use Rattle.lg_shard.specs.Ties.{MovesTied, HistoriesTied, KeysTied, ReferencesTi
 use Rattle.lg_shard.specs.Shown.{changes_on}
 use Rattle.lg_shard.proofs.AccountLemmas.{get-change, get-opened, bytes_same, bytes_itself}
 use Rattle.lg_shard.proofs.HistoryTies.{of-append}
+use Rattle.lg_shard.proofs.SlotLemmas.{get-own, insert-twice}
 use Rattle.lg_shard.proofs.QuietLemmas.{holding-joined, joined-nothing, holding-logged}
 use Rattle.lg_shard.proofs.TieLemmas.{count-append}
 
@@ -164,16 +165,44 @@ module _ (ledgers : NameTable LedgerPart) (s place : ℕ) (ledger : List ℕ) (e
   pub part-follows : Follows shares (shares_of s place (Logged ledger e)) → HoldingFollows (ledger_holding ledger shares) (own_holding s ledger e)
   part-follows follows = subst (λ (x : Holding). HoldingFollows (ledger_holding ledger shares) x) (holding_own s place ledger e ledger (bytes_itself ledger)) (follows ledger)
 
--- a ledger that was opened, and those that were there, are there after a change
-pub opened_still : (old mid : NameTable LedgerPart) (name : List ℕ) (fresh : LedgerPart) → mid ≡ insert old name (unwrap_or (get old name) fresh) → (q : List ℕ) → IsSome (get old q) → IsSome (get mid q)
-opened_still old mid name fresh opened q h =
-    let P : NameTable LedgerPart → Type 0 = λ t. IsSome (get t q) in
-    let Q : Option LedgerPart → Type 0 = λ o. IsSome o in
-    subst P (sym opened) (subst Q (sym (get-change old name _ q)) (still_some (unwrap_or (get old name) fresh) (get old q) (bytes_eq name q) h))
-  where
-    still_some : (v : LedgerPart) (o : Option LedgerPart) (b : Bool) → IsSome o → IsSome (cond b (Some v) o)
-    still_some v o true h = refl
-    still_some v o false h = h
+-- a ledger that is opened, and whose part changes
+module _ (old : NameTable LedgerPart) (name : List ℕ) (fresh part changed : LedgerPart) (is : part ≡ unwrap_or (get old name) fresh) where
+  mid : NameTable LedgerPart
+  mid = insert old name (unwrap_or (get old name) fresh)
+
+  mid_part : get mid name ≡ Some part
+  mid_part = get-own old name (unwrap_or (get old name) fresh) ∙ ap Some (sym is)
+
+  mid_changed : insert mid name changed ≡ insert old name changed
+  mid_changed = insert-twice old name (unwrap_or (get old name) fresh) changed
+
+  -- it is there, as are those that were there
+  pub opened_there : IsSome (get (insert old name changed) name)
+  opened_there = let P : Option LedgerPart → Type 0 = λ o. IsSome o in subst P (sym (get-own old name changed)) refl
+
+  still_some : (o : Option LedgerPart) (b : Bool) → IsSome o → IsSome (cond b (Some changed) o)
+  still_some o true h = refl
+  still_some o false h = h
+
+  pub opened_still : (q : List ℕ) → IsSome (get old q) → IsSome (get (insert old name changed) q)
+  opened_still q h = let P : Option LedgerPart → Type 0 = λ o. IsSome o in subst P (sym (get-change old name changed q)) (still_some (get old q) (bytes_eq name q) h)
+
+  module _ (no_accounts : fresh.accounts ≡ empty) (no_keys : fresh.keys ≡ record { table = empty; spare = 0 }) (no_references : fresh.references ≡ record { table = empty; spare = 0 }) (shares coming : List Share) where
+    -- one entry more is prepared
+    pub opened-prepared : (s place : ℕ) (e : Entry) (count : ℕ) → AreRoomFor count coming
+        → ((done ahead : Holding) → IsRoomFor count ahead → PartTied (Some part) done ahead → PartTied (Some changed) done (joined ahead (own_holding s name e)))
+        → LedgersTied old shares coming → LedgersTied (insert old name changed) shares (coming ++ shares_of s place (Logged name e))
+    opened-prepared s place e count room step tied =
+        subst (λ (t : NameTable LedgerPart). LedgersTied t shares (coming ++ shares_of s place (Logged name e))) mid_changed
+        (ledgers-prepared mid name name refl part changed mid_part s place e shares coming count room step
+        (ledgers-opened old name fresh mid refl no_accounts no_keys no_references shares coming tied))
+
+    -- nothing more is prepared
+    pub opened-kept : ((done ahead : Holding) → PartTied (Some part) done ahead → PartTied (Some changed) done ahead) → LedgersTied old shares coming → LedgersTied (insert old name changed) shares coming
+    opened-kept step tied =
+        subst (λ (t : NameTable LedgerPart). LedgersTied t shares coming) mid_changed
+        (ledgers-kept mid name name refl part changed mid_part shares coming step
+        (ledgers-opened old name fresh mid refl no_accounts no_keys no_references shares coming tied))
 
 -- where there is nothing, nothing is held
 nothing_held : PartTied None no_holding no_holding

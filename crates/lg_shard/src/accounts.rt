@@ -40,20 +40,20 @@ impl AccountPart {
     }
 }
 
-/// Makes a slot for the account and the asset, where there is none.
-pub fn open_pair(
+/// Makes room for one more prepared move of the account and the asset, in a slot that is made where there is none.
+pub fn reserve_pair(
     alloc: Global,
     accounts: &mut Accounts,
     account: &Address,
     asset: &Asset,
 ) -> Result<(), NoMemory>
     ensures same { SameHoldings accounts.old accounts.new }
-    ensures room { SameRoom accounts.old accounts.new }
-    ensures ok { OnOk result (IsSome (slot_at accounts.new account.now asset.now)) }
+    ensures ok { OnOk result ((a b : List ℕ) → waiting_at accounts.new a b ≡ waiting_at accounts.old a b + one_if (is_pair account.now asset.now a b)) }
+    ensures err { OnErr result (SameRoom accounts.old accounts.new) }
 {
-    accounts.open(alloc, account, AccountPart::new(alloc))?;
-    let part = accounts.value_mut(account.bytes());
-    part.assets.open(alloc, asset, Reserved::new(alloc))
+    let part = accounts.open(alloc, account, AccountPart::new(alloc))?;
+    let slot = part.assets.open(alloc, asset, Reserved::new(alloc))?;
+    slot.reserve()
 }
 
 /// Whether the account and the asset have a slot.
@@ -64,22 +64,6 @@ pub fn has_pair(accounts: &Accounts, account: &Address, asset: &Asset) -> bool
         Some(part) => part.assets.find(asset.bytes()).is_some(),
         None => false,
     }
-}
-
-/// Makes room for one more prepared move in a slot that is there.
-pub fn reserve_pair(
-    accounts: &mut Accounts,
-    account: &Address,
-    asset: &Asset,
-) -> Result<(), NoMemory>
-    requires { IsSome (slot_at accounts.old account.now asset.now) }
-    ensures same { SameHoldings accounts.old accounts.new }
-    ensures ok { OnOk result ((a b : List ℕ) → waiting_at accounts.new a b ≡ waiting_at accounts.old a b + one_if (is_pair account.now asset.now a b)) }
-    ensures err { OnErr result (SameRoom accounts.old accounts.new) }
-{
-    let part = accounts.value_mut(account.bytes());
-    let slot = part.assets.value_mut(asset.bytes());
-    slot.reserve()
 }
 
 /// Gives back the room for one prepared move in a slot that is there.
@@ -123,8 +107,7 @@ pub fn prepare_change(
     ensures ok { OnOk result ((a : List ℕ) → history_at accounts.new a ≡ (if bytes_eq account.now a then with_prepared (history_at accounts.old a) change.now else history_at accounts.old a)) }
     ensures err { OnErr result (SameHistories accounts.old accounts.new) }
 {
-    accounts.open(alloc, account, AccountPart::new(alloc))?;
-    let part = accounts.value_mut(account.bytes());
+    let part = accounts.open(alloc, account, AccountPart::new(alloc))?;
     part.history.prepare(change)
 }
 

@@ -7,7 +7,7 @@ ghost use Rattle.lg_shard.specs.Accounts.{items_at, waiting_at, SameHoldings, Sa
 ghost use Rattle.lg_shard.specs.Holdings.{MovesFollow};
 ghost use Rattle.lg_shard.specs.Sides.{side_count, side_moves, posting_count, posting_items};
 
-use crate::accounts::{Accounts, apply_pair, has_pair, open_pair, release_pair, reserve_pair};
+use crate::accounts::{Accounts, apply_pair, has_pair, release_pair, reserve_pair};
 use crate::stripes::stripe_of;
 use lg_containers::{Address, Asset, NoMemory};
 use lg_runs::Steps;
@@ -37,8 +37,7 @@ fn reserve_side(
     if !is_own(stripe, ledger, account) {
         return Ok(());
     }
-    open_pair(alloc, accounts, account, asset)?;
-    reserve_pair(accounts, account, asset)
+    reserve_pair(alloc, accounts, account, asset)
 }
 
 fn release_side(

@@ -136,8 +136,7 @@ pub fn prepare_entry(
     ensures there { OnOk result (IsSome (table.get ledgers.new ledger.now)) }
     ensures still { (q : List ℕ) → IsSome (table.get ledgers.old q) → IsSome (table.get ledgers.new q) }
 {
-    ledgers.open(alloc, ledger, LedgerPart::new(alloc))?;
-    let part = ledgers.value_mut(ledger.bytes());
+    let part = ledgers.open(alloc, ledger, LedgerPart::new(alloc))?;
     prepare_part(alloc, part, stripe, ledger, entry, count)
 }
 

@@ -1,12 +1,12 @@
 //! Maps from names whose values change in place.
 
-ghost use Rattle.std.specs.Prelude.{◌≡◌, OnOk, OnErr, IsTrue, IsSome, Some, unwrap_or};
+ghost use Rattle.std.specs.Prelude.{◌≡◌, OnOk, OnErr, IfOk, IsTrue, IsSome, Some, unwrap_or};
 ghost use Rattle.std.specs.Option.{option_copied};
-ghost use Rattle.std.specs.Borrow.{Lends, sem};
+ghost use Rattle.std.specs.Borrow.{Lends, LendsIfOk, sem};
 ghost use Rattle.std.specs.FinMap.Entries.{put as put_pair, find as find_pair};
 ghost use Rattle.lg_containers.specs.NameOrder.{name_order, is_in_order};
 ghost use Rattle.lg_containers.specs.NameTable as table;
-ghost use Rattle.lg_containers.specs.Places.{IsPlace};
+ghost use Rattle.lg_containers.specs.Places.{IsAt, IsPlace};
 
 use lg_containers::{Duplicate, Grammar, Name, NoMemory};
 use std::alloc::Global;
@@ -34,12 +34,20 @@ impl<G: Grammar, V> Model for Slots<G, V> {
 }
 
 impl<G: Grammar, V: Drop> Slots<G, V> {
-    /// Puts the value under the name where the name isn't there.
-    pub fn open(&mut self, alloc: Global, name: &Name<G>, value: V) -> Result<(), NoMemory>
-        ensures ok { OnOk result (self.new ≡ table.insert self.old name.now (unwrap_or (table.get self.old name.now) value)) }
-        ensures err { OnErr result (self.new ≡ self.old) }
+    ghost use Rattle.lg_shard.specs.contracts.slots.Slots.{the_row};
+
+    /// The value of the name, under which the given one is put where the name isn't there.
+    pub fn open(&mut self, alloc: Global, name: &Name<G>, value: V) -> Result<&mut V, NoMemory>
+        ensures* writes_back { sem 𝓛 (LendsIfOk (the_row G.row V.row G.State.row G.Grammar) V.row self.entry result (λ w. table.insert self.old name.now w) self.old) }
+        ensures value { IfOk result (λ held. held.now ≡ unwrap_or (table.get self.old name.now) value) }
     {
-        open_entry(alloc, &mut self.entries, name, value)
+        match open_entry(alloc, &mut self.entries, name, value) {
+            Ok(place) => {
+                let entry = &mut self.entries[place];
+                Ok(&mut entry.1)
+            }
+            Err(error) => Err(error),
+        }
     }
 }
 
@@ -114,16 +122,17 @@ fn open_entry<G: Grammar, V: Drop>(
     entries: &mut Vec<(Name<G>, V)>,
     name: &Name<G>,
     value: V,
-) -> Result<(), NoMemory>
+) -> Result<usize, NoMemory>
     requires { IsTrue (is_in_order entries.old.items) }
+    ensures place { IfOk result (λ place. IsAt name.now entries.new.items place) }
     ensures ok { OnOk result (entries.new.items ≡ put_pair name_order name.now (unwrap_or (find_pair name_order name.now entries.old.items) value) entries.old.items) }
     ensures err { OnErr result (entries.new.items ≡ entries.old.items) }
 {
     match place_of(entries, name.bytes()) {
-        Ok(_) => Ok(()),
+        Ok(place) => Ok(place),
         Err(place) => {
             entries.insert(place, (name.copy(alloc)?, value))?;
-            Ok(())
+            Ok(place)
         }
     }
 }
