@@ -60,7 +60,7 @@ impl Book {
         ensures { IfOk result (λ book. book ≡ record { events = first_events; prepared = [] }) }
     {
         let event = Shared::new(alloc, Event::Made(first_ledger(alloc)?))?;
-        let volumes = Shared::new(alloc, FirstVolumes::none(alloc))?;
+        let volumes = Shared::new(alloc, FirstVolumes::none(alloc)?)?;
         let mut book = Book::empty(alloc);
         book.prepare(&event, &volumes)?;
         book.apply(event.get());

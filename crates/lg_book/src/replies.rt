@@ -9,7 +9,7 @@ ghost use Rattle.lg_views.specs.Writes.{first_reply};
 ghost use Rattle.lg_book.specs.FirstVolumes.{entry_volumes, transaction_volumes};
 
 use crate::volumes::FirstVolumes;
-use lg_containers::{Duplicate, Shared};
+use lg_containers::Duplicate;
 use lg_types::{Entry, EntryBody, NoMemory, Transaction};
 use lg_views::{Content, Reply, TransactionView};
 use std::alloc::Global;
@@ -63,15 +63,9 @@ fn view_of(
         inserted_at: date,
         reverted: false,
         reverted_at: None,
-        pre_commit_volumes: Some(Shared::new(alloc, volumes.pre_commit_volumes.copy(alloc)?)?),
-        post_commit_volumes: Some(Shared::new(alloc, volumes.post_commit_volumes.copy(alloc)?)?),
-        pre_commit_effective_volumes: Some(Shared::new(
-            alloc,
-            volumes.pre_commit_effective_volumes.copy(alloc)?,
-        )?),
-        post_commit_effective_volumes: Some(Shared::new(
-            alloc,
-            volumes.post_commit_effective_volumes.copy(alloc)?,
-        )?),
+        pre_commit_volumes: Some(volumes.pre_commit_volumes.share()?),
+        post_commit_volumes: Some(volumes.post_commit_volumes.share()?),
+        pre_commit_effective_volumes: Some(volumes.pre_commit_effective_volumes.share()?),
+        post_commit_effective_volumes: Some(volumes.post_commit_effective_volumes.share()?),
     })
 }

@@ -137,10 +137,10 @@ fn deposit_volumes(alloc: Global) -> Result<Shared<FirstVolumes>, Fail>
         input: 0,
         output: 100,
     };
-    let pre_commit_volumes = of_both(alloc, none, none)?;
-    let post_commit_volumes = of_both(alloc, taken, given)?;
-    let pre_commit_effective_volumes = of_both(alloc, none, none)?;
-    let post_commit_effective_volumes = of_both(alloc, taken, given)?;
+    let pre_commit_volumes = Shared::new(alloc, of_both(alloc, none, none)?)?;
+    let post_commit_volumes = Shared::new(alloc, of_both(alloc, taken, given)?)?;
+    let pre_commit_effective_volumes = Shared::new(alloc, of_both(alloc, none, none)?)?;
+    let post_commit_effective_volumes = Shared::new(alloc, of_both(alloc, taken, given)?)?;
     let volumes = FirstVolumes {
         pre_commit_volumes,
         post_commit_volumes,

@@ -58,7 +58,7 @@ fn plan_ledger(alloc: Global, info: LedgerInfo, book: &Book) -> Result<Decision,
         hit: false,
         content: Content::Empty,
     };
-    let volumes = FirstVolumes::none(alloc);
+    let volumes = FirstVolumes::none(alloc)?;
     let plan = one_event(alloc, book.len(), reply, Event::Made(info), volumes)?;
     Ok(Decision::Planned(plan))
 }

@@ -131,10 +131,10 @@ fn volumes_of<S: Shards>(
         EntryBody::NewTransaction { transaction, .. } => {
             first_volumes(alloc, lent, ledger, &[], transaction)
         }
-        EntryBody::SetMetadata { .. } => Ok(FirstVolumes::none(alloc)),
+        EntryBody::SetMetadata { .. } => FirstVolumes::none(alloc),
         EntryBody::Reverted { transaction, .. } => {
             first_volumes(alloc, lent, ledger, &[], transaction)
         }
-        EntryBody::DeleteMetadata { .. } => Ok(FirstVolumes::none(alloc)),
+        EntryBody::DeleteMetadata { .. } => FirstVolumes::none(alloc),
     }
 }
