@@ -76,7 +76,7 @@ module _ (t : Transaction) (inserted : ℤ) (ms : List Placed) (h : Each (λ m. 
 
 -- ---- the four maps
 
-same_four : (a b : FirstVolumes) → a.pre_commit_volumes ≡ b.pre_commit_volumes → a.post_commit_volumes ≡ b.post_commit_volumes
+pub same_four : (a b : FirstVolumes) → a.pre_commit_volumes ≡ b.pre_commit_volumes → a.post_commit_volumes ≡ b.post_commit_volumes
     → a.pre_commit_effective_volumes ≡ b.pre_commit_effective_volumes → a.post_commit_effective_volumes ≡ b.post_commit_effective_volumes → a ≡ b
 same_four a b p q r s = λ i. record { pre_commit_volumes = p i; post_commit_volumes = q i; pre_commit_effective_volumes = r i; post_commit_effective_volumes = s i }
 

@@ -7,3 +7,4 @@ pub mod AroundLemmas
 pub mod ExampleLemmas
 pub mod LawLemmas
 pub mod NumberLemmas
+pub mod HeldLemmas

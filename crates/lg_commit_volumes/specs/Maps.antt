@@ -1,9 +1,16 @@
 -- The four maps of volumes of a transaction, pair by pair.
-use Rattle.std.specs.Prelude.{ℕ, List, [], ◌∷◌}
+use Rattle.std.specs.Prelude.{◌≡◌, ℕ, List, [], ◌∷◌, Option, Some, IsSome}
+use Rattle.std.specs.Option.{unwrap_or}
+use Rattle.lg_base.specs.declared.amounts.Volumes.{Volumes}
+use Rattle.lg_containers.specs.NameTable as table
 use Rattle.lg_types.specs.declared.records.Posting.{Posting}
-use Rattle.lg_views.specs.Pairs.{put_pair}
+use Rattle.lg_views.specs.Pairs.{AccountMap, put_pair}
 use Rattle.lg_book.specs.declared.volumes.FirstVolumes.{FirstVolumes}
 use Rattle.lg_commit_volumes.specs.declared.pairs.PairVolumes.{PairVolumes}
+
+-- the volumes that a map has of an account and an asset
+abbrev pub pair_in : AccountMap → List ℕ → List ℕ → Option Volumes
+pair_in m account asset = table.get (unwrap_or (table.get m account) table.empty) asset
 
 -- the maps with the volumes of an account and an asset
 abbrev pub put_four : FirstVolumes → List ℕ → List ℕ → PairVolumes → FirstVolumes
@@ -21,3 +28,14 @@ put_both f maps p = put_four (put_four maps p.source p.asset (f p.source p.asset
 abbrev pub put_all : (List ℕ → List ℕ → PairVolumes) → FirstVolumes → List Posting → FirstVolumes
 put_all f maps [] = maps
 put_all f maps (p ∷ ps) = put_all f (put_both f maps p) ps
+
+-- each of the maps has its volumes of an account and an asset
+pub record HasFour (maps : FirstVolumes) (account asset : List ℕ) (v : PairVolumes) : Type 0 where
+  pub pre_commit : pair_in maps.pre_commit_volumes account asset ≡ Some v.pre_commit
+  pub post_commit : pair_in maps.post_commit_volumes account asset ≡ Some v.post_commit
+  pub pre_commit_effective : pair_in maps.pre_commit_effective_volumes account asset ≡ Some v.pre_commit_effective
+  pub post_commit_effective : pair_in maps.post_commit_effective_volumes account asset ≡ Some v.post_commit_effective
+
+-- where the first of the maps has an account and an asset, all have `f` of them
+abbrev pub HasOnly : (List ℕ → List ℕ → PairVolumes) → FirstVolumes → Type 0
+HasOnly f maps = (account asset : List ℕ) → IsSome (pair_in maps.pre_commit_volumes account asset) → HasFour maps account asset (f account asset)

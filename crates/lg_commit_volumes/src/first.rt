@@ -9,9 +9,9 @@ ghost use Rattle.lg_book.specs.FirstVolumes.{entry_volumes};
 ghost use Rattle.lg_commit_volumes.specs.Lent.{IsLent, AreLent, AreParts, IsPairWithin, ArePairsWithin, HasSmallerIds};
 ghost use Rattle.lg_commit_volumes.specs.Lent.{moves_before};
 ghost use Rattle.lg_commit_volumes.specs.Before.{before_of, around};
-ghost use Rattle.lg_commit_volumes.specs.Maps.{put_four, put_both};
+ghost use Rattle.lg_commit_volumes.specs.Maps.{HasOnly, put_four, put_both};
 
-use crate::maps::put_pair_volumes;
+use crate::maps::{has_pair, put_pair_volumes};
 use crate::pairs::pair_volumes;
 use lg_base::NoMemory;
 use lg_book::FirstVolumes;
@@ -23,7 +23,7 @@ use std::alloc::Global;
 /// earlier writes of the same list append and that no shard has yet, in their order.
 ///
 /// The transaction of an entry that follows a log and these entries gets the volumes over all of them, where its id is
-/// greater than theirs. Each account and asset is read from its shard as often as a posting names it.
+/// greater than theirs. Each account and asset is read from its shard once, however many postings name it.
 pub fn first_volumes<S: Shards>(
     alloc: Global,
     shards: &S,
@@ -64,18 +64,51 @@ fn put_posting<S: Shards>(
     requires lent_destination { IsLent (S.lent shards.now) ledger.now posting.now.destination }
     requires source { IsPairWithin (S.lent shards.now) ledger.now earlier.now transaction.now (posting.now.source, posting.now.asset) }
     requires destination { IsPairWithin (S.lent shards.now) ledger.now earlier.now transaction.now (posting.now.destination, posting.now.asset) }
+    requires held { HasOnly (λ account asset. around transaction.now (before_of transaction.now (moves_before (S.lent shards.now) ledger.now earlier.now account asset)) account asset) maps.old }
     ensures { OnOk result (maps.new ≡ put_both (λ account asset. around transaction.now (before_of transaction.now (moves_before (S.lent shards.now) ledger.now earlier.now account asset)) account asset) maps.old posting.now) }
 {
     let asset = &posting.asset;
-    let volumes = pair_volumes(shards, ledger, earlier, transaction, &posting.source, asset);
-    put_pair_volumes(alloc, maps, &posting.source, asset, &volumes)?;
-    let volumes = pair_volumes(
+    put_side(
+        alloc,
+        maps,
+        shards,
+        ledger,
+        earlier,
+        transaction,
+        &posting.source,
+        asset,
+    )?;
+    put_side(
+        alloc,
+        maps,
         shards,
         ledger,
         earlier,
         transaction,
         &posting.destination,
         asset,
-    );
-    put_pair_volumes(alloc, maps, &posting.destination, asset, &volumes)
+    )
+}
+
+/// Puts the volumes of one account of a posting into the maps, where they don't have them yet.
+fn put_side<S: Shards>(
+    alloc: Global,
+    maps: &mut FirstVolumes,
+    shards: &S,
+    ledger: &LedgerName,
+    earlier: &[Entry],
+    transaction: &Transaction,
+    account: &Address,
+    asset: &Asset,
+) -> Result<(), NoMemory>
+    requires lent { IsLent (S.lent shards.now) ledger.now account.now }
+    requires limit { IsPairWithin (S.lent shards.now) ledger.now earlier.now transaction.now (account.now, asset.now) }
+    requires held { HasOnly (λ account asset. around transaction.now (before_of transaction.now (moves_before (S.lent shards.now) ledger.now earlier.now account asset)) account asset) maps.old }
+    ensures { OnOk result (maps.new ≡ put_four maps.old account.now asset.now (around transaction.now (before_of transaction.now (moves_before (S.lent shards.now) ledger.now earlier.now account.now asset.now)) account.now asset.now)) }
+{
+    if has_pair(&maps.pre_commit_volumes, account, asset) {
+        return Ok(());
+    }
+    let volumes = pair_volumes(shards, ledger, earlier, transaction, account, asset);
+    put_pair_volumes(alloc, maps, account, asset, &volumes)
 }

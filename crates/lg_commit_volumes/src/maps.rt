@@ -1,9 +1,9 @@
 //! The maps of volumes.
 
-ghost use Rattle.std.specs.Prelude.{◌≡◌, OnOk, unwrap_or};
+ghost use Rattle.std.specs.Prelude.{◌≡◌, OnOk, unwrap_or, is_some};
 ghost use Rattle.lg_containers.specs.NameTable as table;
 ghost use Rattle.lg_views.specs.Pairs.{put_pair};
-ghost use Rattle.lg_commit_volumes.specs.Maps.{put_four};
+ghost use Rattle.lg_commit_volumes.specs.Maps.{pair_in, put_four};
 
 use crate::pairs::PairVolumes;
 use lg_base::{NoMemory, Volumes};
@@ -11,6 +11,16 @@ use lg_book::FirstVolumes;
 use lg_types::{Address, Asset, Duplicate};
 use lg_views::{AccountVolumes, AssetVolumes};
 use std::alloc::Global;
+
+/// Whether the map has volumes of the account and the asset.
+pub fn has_pair(map: &AccountVolumes, account: &Address, asset: &Asset) -> bool
+    ensures { result ≡ is_some (pair_in map.now account.now asset.now) }
+{
+    match map.find(account.bytes()) {
+        Some(assets) => assets.find(asset.bytes()).is_some(),
+        None => false,
+    }
+}
 
 /// Puts the four volumes of the account and the asset into the maps.
 pub fn put_pair_volumes(
