@@ -11,7 +11,7 @@ ghost use Rattle.lg_commit_volumes.specs.Lent.{moves_before};
 ghost use Rattle.lg_commit_volumes.specs.Before.{before_of, around};
 ghost use Rattle.lg_commit_volumes.specs.Maps.{HasOnly, put_four, put_both};
 
-use crate::maps::{has_pair, put_pair_volumes};
+use crate::maps::VolumeMaps;
 use crate::pairs::pair_volumes;
 use lg_base::NoMemory;
 use lg_book::FirstVolumes;
@@ -35,7 +35,24 @@ pub fn first_volumes<S: Shards>(
     requires limit { ArePairsWithin (S.lent shards.now) ledger.now earlier.now transaction.now }
     ensures { IfOk result (λ volumes. (events : List Event) (e : Entry) → body_transaction e.body ≡ Some transaction.now → AreParts (S.lent shards.now) ledger.now events transaction.now → HasSmallerIds (log events ledger.now ++ earlier.now) transaction.now.id → volumes ≡ entry_volumes ((log events ledger.now ++ earlier.now) ++ e ∷ []) e) }
 {
-    let mut maps = FirstVolumes::none(alloc);
+    let maps = filled_maps(alloc, shards, ledger, earlier, transaction)?;
+    let volumes = maps.shared(alloc)?;
+    Ok(volumes)
+}
+
+/// The maps with the volumes of the accounts of a new transaction.
+fn filled_maps<S: Shards>(
+    alloc: Global,
+    shards: &S,
+    ledger: &LedgerName,
+    earlier: &[Entry],
+    transaction: &Transaction,
+) -> Result<VolumeMaps, NoMemory>
+    requires lent { AreLent (S.lent shards.now) ledger.now transaction.now }
+    requires limit { ArePairsWithin (S.lent shards.now) ledger.now earlier.now transaction.now }
+    ensures { IfOk result (λ volumes. (events : List Event) (e : Entry) → body_transaction e.body ≡ Some transaction.now → AreParts (S.lent shards.now) ledger.now events transaction.now → HasSmallerIds (log events ledger.now ++ earlier.now) transaction.now.id → volumes ≡ entry_volumes ((log events ledger.now ++ earlier.now) ++ e ∷ []) e) }
+{
+    let mut maps = VolumeMaps::new(alloc);
     for posting in transaction.postings.as_slice() {
         put_posting(
             alloc,
@@ -53,7 +70,7 @@ pub fn first_volumes<S: Shards>(
 /// Puts the volumes of both accounts of a posting into the maps.
 fn put_posting<S: Shards>(
     alloc: Global,
-    maps: &mut FirstVolumes,
+    maps: &mut VolumeMaps,
     shards: &S,
     ledger: &LedgerName,
     earlier: &[Entry],
@@ -93,7 +110,7 @@ fn put_posting<S: Shards>(
 /// Puts the volumes of one account of a posting into the maps, where they don't have them yet.
 fn put_side<S: Shards>(
     alloc: Global,
-    maps: &mut FirstVolumes,
+    maps: &mut VolumeMaps,
     shards: &S,
     ledger: &LedgerName,
     earlier: &[Entry],
@@ -106,9 +123,9 @@ fn put_side<S: Shards>(
     requires held { HasOnly (λ account asset. around transaction.now (before_of transaction.now (moves_before (S.lent shards.now) ledger.now earlier.now account asset)) account asset) maps.old }
     ensures { OnOk result (maps.new ≡ put_four maps.old account.now asset.now (around transaction.now (before_of transaction.now (moves_before (S.lent shards.now) ledger.now earlier.now account.now asset.now)) account.now asset.now)) }
 {
-    if has_pair(&maps.pre_commit_volumes, account, asset) {
+    if maps.has_pair(account, asset) {
         return Ok(());
     }
     let volumes = pair_volumes(shards, ledger, earlier, transaction, account, asset);
-    put_pair_volumes(alloc, maps, account, asset, &volumes)
+    maps.put(alloc, account, asset, &volumes)
 }

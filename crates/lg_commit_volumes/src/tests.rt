@@ -5,7 +5,7 @@ ghost use Rattle.std.specs.Option.{option_copied};
 ghost use Rattle.lg_commit_volumes.specs.Examples.{units_of, entry_units, shards_to};
 
 use crate::{FirstVolumes, first_volumes};
-use lg_containers::{AccountMeta, Address, Asset, LedgerName, Meta, Name};
+use lg_containers::{AccountMeta, Address, Asset, LedgerName, Meta, Name, Shared};
 use lg_shard::{Shard, Shards};
 use lg_types::{Amount, Entry, EntryBody, Posting, Postings, Transaction};
 use lg_views::AccountVolumes;
@@ -133,8 +133,8 @@ fn volumes_of(
 }
 
 /// The input and the output of the account in EUR.
-fn shown(volumes: &AccountVolumes, account: &[u8]) -> Option<(u128, u128)> {
-    let assets = volumes.find(account)?;
+fn shown(volumes: &Shared<AccountVolumes>, account: &[u8]) -> Option<(u128, u128)> {
+    let assets = volumes.get().find(account)?;
     let own = assets.find(b"EUR")?;
     Some((own.input, own.output))
 }
