@@ -65,6 +65,6 @@ fn apply_step(step: &Step, place: u64, shard: &mut Shard)
     ensures { (rest : List PlacedEvent) → shard.old.prepared ≡ own_events shard.old.stripe place (step.now.event ∷ []) ++ rest → shard.new ≡ record { stripe = shard.old.stripe; shares = shard.old.shares ++ shares_of shard.old.stripe place step.now.event; prepared = rest } }
 {
     if step.stripes.has(shard.stripe()) {
-        shard.apply(&step.event, place);
+        shard.apply(step.event.get(), place);
     }
 }
