@@ -1,6 +1,6 @@
 pub mod Buffering
 pub mod TakenOut
-pub mod Calls
+pub mod RequestBodies
 pub mod Cuts
 pub mod History
 pub mod Numbered

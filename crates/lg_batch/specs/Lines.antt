@@ -1,21 +1,19 @@
--- The lines of a script, where imports aren't read yet: they are calls that are refused as not built.
-use Rattle.std.specs.Prelude.{◌≡◌, ◌⊎◌, ℕ, ℤ, MatchBool, List, [], ◌∷◌, Option, Ok, codes}
+-- The lines of a script, where the lines of imports aren't looked at yet.
+use Rattle.std.specs.Prelude.{◌≡◌, ◌⊎◌, ℕ, ℤ, List, [], ◌∷◌, Option, Ok, codes}
 use Rattle.lg_json.specs.Tree.{Tree, Members}
 use Rattle.lg_json.specs.Tree.Tree.{members}
-use Rattle.lg_types.specs.declared.calls.Call.TheVariants.{Unreadable}
+use Rattle.lg_types.specs.declared.calls.Call.{Call}
 use Rattle.lg_types.specs.declared.refusals.Reason.TheVariants.{Kind}
-use Rattle.lg_types.specs.declared.refusals.Refusal.TheVariants.{NotBuilt}
 use Rattle.lg_views.specs.declared.lines.ScriptLine.{ScriptLine}
 use Rattle.lg_views.specs.Answers.{Answer, known, ◌>>=◌}
 use Rattle.lg_views.specs.Checked.{Shows}
-use Rattle.lg_views.specs.Script.{LineContent, content, IsCallIn, IsLineFault, NowIn, bad_member, text_member, number_member, key_member, line_of, script_lines}
+use Rattle.lg_views.specs.Script.{LineContent, content, IsLineFault, NowIn, bad_member, text_member, number_member, key_member, line_of, script_lines}
 use Rattle.lg_views.specs.Values.{under}
-use Rattle.lg_batch.specs.Unread.{is_not_read}
+use Rattle.lg_batch.specs.Imports.{IsCallOf}
 
 -- the call of a line, with its moment, its caller and its phase
 abbrev pub CallIn : ℤ → ℕ → ℕ → List ℕ → List ℕ → Option (List ℕ) → Option Tree → Answer LineContent → Type 0
-CallIn moment caller phase method target key value r =
-    MatchBool (is_not_read method target) (r ≡ Ok (content moment caller phase (Unreadable NotBuilt))) (IsCallIn moment caller phase method target key value r)
+CallIn moment caller phase method target key value r = (c : Call) × IsCallOf method target key value c × (r ≡ Ok (content moment caller phase c))
 
 -- the members in their order, and the value of the body; a phase isn't below that of an earlier line that could be read
 abbrev pub ContentWith : ℕ → Members → Option Tree → Answer LineContent → Type 0

@@ -1,20 +1,14 @@
 -- What the readers of a line's parts answer.
-use Rattle.std.specs.Prelude.{◌≡◌, ℕ, MatchBool, List, [], ◌∷◌, ◌++◌, Option, Some, None, Result, Ok, Err}
+use Rattle.std.specs.Prelude.{◌≡◌, ℕ, List, [], ◌∷◌, ◌++◌, Option, Some, None, Result, Ok, Err}
 use Rattle.std.specs.Borrow.{Bor}
 use Rattle.lg_codec.specs.declared.stop.CodecStop.{CodecStop}
 use Rattle.lg_codec.specs.declared.stop.CodecStop.TheVariants.{Refused, NoMemory}
-use Rattle.lg_json.specs.Tree.{Tree}
-use Rattle.lg_types.specs.declared.calls.Call.{Call}
-use Rattle.lg_types.specs.declared.calls.Call.TheVariants.{Unreadable}
 use Rattle.lg_types.specs.declared.refusals.Refusal.{Refusal}
-use Rattle.lg_types.specs.declared.refusals.Refusal.TheVariants.{NotBuilt}
 use Rattle.lg_views.specs.declared.lines.ScriptLine.{ScriptLine}
 use Rattle.lg_views.specs.Answers.{Answer}
-use Rattle.lg_views.specs.Requests.{Body, IsRequest}
 use Rattle.lg_views.specs.Script as script
 use Rattle.lg_batch.specs.declared.content.LineContent.{LineContent}
 use Rattle.lg_batch.specs.Lines.{IsLine}
-use Rattle.lg_batch.specs.Unread.{is_not_read}
 
 -- what a call answers, seen by `seen`, is an answer of the reading; nothing is said where memory is wanting
 abbrev pub AnswersAs : {A B : Type 0} → (B → A) → (Answer A → Type 0) → Result B CodecStop → Type 0
@@ -31,11 +25,6 @@ lent_bytes b = b.now
 
 abbrev pub content_seen : LineContent → script.LineContent
 content_seen c = script.content c.moment c.caller c.phase c.call
-
--- the call of a line's request
-abbrev pub IsCallOf : List ℕ → List ℕ → Option (List ℕ) → Option Tree → Call → Type 0
-IsCallOf method target key value c =
-    MatchBool (is_not_read method target) (c ≡ Unreadable NotBuilt) ((body : Body) × script.IsBodyOf method target value body × IsRequest method target key body c)
 
 -- the refusal of a fault, or want of memory
 abbrev pub stop_of : Option Refusal → CodecStop

@@ -6,16 +6,17 @@ ghost use Rattle.lg_codec.specs.Seen.{members_seen};
 ghost use Rattle.lg_json.specs.Tree.{tree};
 ghost use Rattle.lg_targets.specs.Seen.{bytes_seen};
 ghost use Rattle.lg_batch.specs.Lines.{ContentWith, ContentIn, ContentBy, LineAnswer, IsLine};
-ghost use Rattle.lg_batch.specs.Reads.{ReadsAs, content_seen, IsCallOf};
+ghost use Rattle.lg_batch.specs.Imports.{IsCallOf};
+ghost use Rattle.lg_batch.specs.Reads.{ReadsAs, content_seen};
 
 use crate::bodies::take_body;
+use crate::imports::{as_unbuilt, request_body};
 use crate::members::{key_member, moment_in, number_member, text_member};
 use crate::stops::{bad_line, bad_member};
-use crate::unread::is_not_read;
 use lg_base::NoMemory;
 use lg_codec::CodecStop;
 use lg_json::{Json, Member, MemberList};
-use lg_routes::{ListReader, RequestBody, call_of_request};
+use lg_routes::{ListReader, call_of_request};
 use lg_types::{Call, Reason, Refusal};
 use lg_views::ScriptLine;
 use std::alloc::Global;
@@ -40,14 +41,9 @@ fn call_in<L: ListReader>(
 ) -> Result<Call, NoMemory>
     ensures { IfOk result (IsCallOf method.now target.now (bytes_seen key.entry) (option_map tree body)) }
 {
-    let unread = is_not_read(alloc, method, target)?;
-    if unread {
-        return Ok(Call::Unreadable(Refusal::NotBuilt));
-    }
-    match body {
-        Some(value) => call_of_request::<L>(alloc, method, target, key, RequestBody::Value(value)),
-        None => call_of_request::<L>(alloc, method, target, key, RequestBody::None),
-    }
+    let body = request_body(alloc, method, target, body)?;
+    let call = call_of_request::<L>(alloc, method, target, key, body)?;
+    Ok(as_unbuilt(call))
 }
 
 /// What the members of a line and its body say.

@@ -3,6 +3,7 @@
 
 mod bodies;
 mod content;
+mod imports;
 mod line_parts;
 mod members;
 mod output;
@@ -13,7 +14,6 @@ mod script;
 mod script_tests;
 mod stops;
 mod text_lines;
-mod unread;
 
 pub use lg_base::NoMemory;
 pub use lg_views::ScriptLine;

@@ -14,7 +14,7 @@ fn word_of(reason: Reason) -> &'static str {
     }
 }
 
-/// The name of a member that lines have; `-` for the line itself.
+/// The name of a member that lines have, or of a part of their requests; `-` for the line itself.
 fn member_of(name: &[u8]) -> &'static str {
     match name {
         b"" => "-",
@@ -24,6 +24,17 @@ fn member_of(name: &[u8]) -> &'static str {
         b"method" => "method",
         b"path" => "path",
         b"key" => "key",
+        b"body" => "body",
+        b"ledger" => "ledger",
+        _ => "another",
+    }
+}
+
+fn parameter_of(name: &[u8]) -> &'static str {
+    match name {
+        b"pageSize" => "pageSize",
+        b"hashes" => "hashes",
+        b"order" => "order",
         _ => "another",
     }
 }
@@ -36,8 +47,17 @@ fn told_refusal(alloc: Global, refusal: &Refusal) -> Result<String, Fail> {
             let reason = word_of(*reason);
             Ok(format!(in alloc; "{member} {reason}")?)
         }
+        Refusal::Member { path, reason } => {
+            let path = member_of(path.bytes());
+            let reason = word_of(*reason);
+            Ok(format!(in alloc; "in the request: {path} {reason}")?)
+        }
         Refusal::NoRoute => Ok(format!(in alloc; "no route")?),
-        Refusal::Parameter { .. } => Ok(format!(in alloc; "a parameter")?),
+        Refusal::Method => Ok(format!(in alloc; "method")?),
+        Refusal::Parameter { name } => {
+            let name = parameter_of(name.bytes());
+            Ok(format!(in alloc; "query {name}")?)
+        }
         Refusal::NotBuilt => Ok(format!(in alloc; "not built")?),
         _ => Ok(format!(in alloc; "another refusal")?),
     }
@@ -125,7 +145,7 @@ const LINES: [(&[u8], &str); 17] = [
     ),
     (
         b"{\"now\":\"1970-01-01T00:00:01Z\",\"method\":\"GET\",\"path\":\"/v2/default/logs?pageSize=0\"}",
-        "1 0 0 1000000 a parameter",
+        "1 0 0 1000000 query pageSize",
     ),
     (
         b"{\"now\":\"1970-01-01T00:00:01Z\",\"method\":\"POST\",\"path\":\"/v2/default/logs/import\"}",
@@ -140,6 +160,51 @@ const LINES: [(&[u8], &str); 17] = [
 #[test]
 fn lines_are_read_or_refused_at_their_first_fault(rt: HostRuntime) -> Result<(), Fail> {
     for (bytes, expected) in &LINES {
+        let line = told_line(rt.alloc(), bytes)?;
+        assert_eq!(rt; line.as_str(), *expected);
+    }
+    Ok(())
+}
+
+/// Lines of imports, and of requests like them, and what is read of each.
+const IMPORTS: [(&[u8], &str); 8] = [
+    (
+        b"{\"now\":\"1970-01-01T00:00:01Z\",\"method\":\"POST\",\"path\":\"/v2/default/logs/import\",\"body\":null}",
+        "1 0 0 1000000 not built",
+    ),
+    (
+        b"{\"now\":\"1970-01-01T00:00:01Z\",\"method\":\"POST\",\"path\":\"/v2/default/logs/import?hashes=recompute\",\"key\":\"\",\"body\":\"{}\"}",
+        "1 0 0 1000000 not built",
+    ),
+    (
+        b"{\"now\":\"1970-01-01T00:00:01Z\",\"method\":\"POST\",\"path\":\"/v2/default/logs/import\",\"body\":5}",
+        "1 0 0 1000000 in the request: body kind",
+    ),
+    (
+        b"{\"now\":\"1970-01-01T00:00:01Z\",\"method\":\"POST\",\"path\":\"/v2/default/logs/import?order=x\",\"body\":\"\"}",
+        "1 0 0 1000000 query order",
+    ),
+    (
+        b"{\"now\":\"1970-01-01T00:00:01Z\",\"method\":\"POST\",\"path\":\"/v2/default/logs/import?order=x&hashes=x\",\"body\":5}",
+        "1 0 0 1000000 query hashes",
+    ),
+    (
+        b"{\"now\":\"1970-01-01T00:00:01Z\",\"method\":\"POST\",\"path\":\"/v2/a%20b/logs/import?hashes=x\",\"body\":5}",
+        "1 0 0 1000000 in the request: ledger form",
+    ),
+    (
+        b"{\"now\":\"1970-01-01T00:00:01Z\",\"method\":\"GET\",\"path\":\"/v2/a%20b/logs/import\",\"body\":\"\"}",
+        "1 0 0 1000000 method",
+    ),
+    (
+        b"{\"now\":\"1970-01-01T00:00:01Z\",\"method\":\"POST\",\"path\":\"/v2/default/transactions\",\"body\":\"\"}",
+        "1 0 0 1000000 in the request: body kind",
+    ),
+];
+
+#[test]
+fn imports_are_refused_at_their_first_fault(rt: HostRuntime) -> Result<(), Fail> {
+    for (bytes, expected) in &IMPORTS {
         let line = told_line(rt.alloc(), bytes)?;
         assert_eq!(rt; line.as_str(), *expected);
     }

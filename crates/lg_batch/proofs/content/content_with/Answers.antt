@@ -1,11 +1,7 @@
-use Rattle.std.proofs.Common.{◌≡◌, w64, rules}
+use Rattle.std.proofs.Common.{◌≡◌, w64, rules, refl}
 use Rattle.std.proofs.lemmas.Int.{to_z-of_z}
 use mir.Val.{to_z, of_z}
-use Rattle.std.specs.Option.{option_map}
-use Rattle.lg_json.specs.Tree.{tree}
-use Rattle.lg_targets.specs.Seen.{bytes_seen}
 use Rattle.lg_batch.specs.Reads.{content_seen}
-use Rattle.lg_batch.proofs.Calls.{call_in}
 use Rattle.lg_batch.proofs.Readings.{onward, halted}
 use Rattle.lg_batch.proofs.content.content_with.Goals as goal
 
@@ -42,4 +38,4 @@ returns g c =
     rw e
     (onward c.in_ok-now.ensures (onward c.in_ok-moment.ensures (onward c.in_ok-caller.ensures (onward c.in_ok-phase.ensures
     (onward c.in_ok-method.ensures (onward c.in_ok-target.ensures (onward c.in_ok-key.ensures
-    (record { answers = call_in c.in_ok-method.method.now c.in_ok-target.target.now (bytes_seen c.in_ok-key.key) c.in_ok-moment.moment c.in_ok-caller.caller c.in_ok-phase.phase (option_map tree c.args.body) c.in_ok-call.call c.in_ok-call.ensures }))))))))
+    (record { answers = (c.in_ok-call.call, c.in_ok-call.ensures, refl) }))))))))
