@@ -224,8 +224,8 @@ impl Book {
         ensures err { OnErr result (self.new ≡ self.old) }
         ensures room { length self.new.events + length self.new.prepared < 2 ^ 64 }
     {
-        let shared = event.share()?;
         self.events.reserve(1)?;
+        let shared = event.share()?;
         let place = self.events.len();
         prepare_event(self.alloc, &mut self.ledgers, place, event.get(), volumes)?;
         push_within(&mut self.events, shared);

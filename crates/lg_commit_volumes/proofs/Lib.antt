@@ -8,3 +8,4 @@ pub mod ExampleLemmas
 pub mod LawLemmas
 pub mod NumberLemmas
 pub mod HeldLemmas
+pub mod EffectiveLemmas

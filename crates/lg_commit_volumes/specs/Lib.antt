@@ -1,5 +1,6 @@
 pub mod Lent
 pub mod Before
 pub mod Maps
+pub mod EffectiveMaps
 pub mod Examples
 pub mod Laws

@@ -167,7 +167,7 @@ module _ (ledgers : NameTable LedgerPart) (s place : ℕ) (ledger : List ℕ) (e
 
 -- a ledger that is opened, and whose part changes
 module _ (old : NameTable LedgerPart) (name : List ℕ) (fresh part changed : LedgerPart) (is : part ≡ unwrap_or (get old name) fresh) where
-  mid : NameTable LedgerPart
+  abbrev mid : NameTable LedgerPart
   mid = insert old name (unwrap_or (get old name) fresh)
 
   mid_part : get mid name ≡ Some part

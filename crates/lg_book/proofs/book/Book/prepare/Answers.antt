@@ -12,7 +12,7 @@ use Rattle.lg_book.proofs.book.Book.prepare.Goals as goal
 pub prepare_event-requires-clause-may : goal.prepare_event-requires-clause-may
 prepare_event-requires-clause-may c =
     let whole = whole_list c.self.inside.added c.self.inside.events.items c.args.self.now.events c.args.self.now.prepared (ap (λ (b : Booked). b.events) c.self.view_is) (ap (λ (b : Booked). b.prepared) c.self.view_is) in
-    event_can_prepare c.self.inside.events.items c.self.inside.added c.self.inside.ledgers.items c.self.invariant c.args.event.now (subst (λ es. MayFollow es c.args.event.now) whole c.requires.follows)
+    rw c.get.ensures (event_can_prepare c.self.inside.events.items c.self.inside.added c.self.inside.ledgers.items c.self.invariant c.args.event.now (subst (λ es. MayFollow es c.args.event.now) whole c.requires.follows))
 
 pub invariant_of-self-2 : goal.invariant_of-self-2
 invariant_of-self-2 c =
@@ -23,6 +23,6 @@ invariant_of-self-2 c =
     let place : c.len-place.result ≡ length c.self.inside.events.items = c.len-place.ensures ∙ c.in_ok-reserve.ensures.len ∙ c.self.inside.events.ok.0 in
     let items : c.push_within.new.items.items ≡ c.self.inside.events.items ++ c.args.event.now ∷ [] = c.push_within.ensures ∙ ap₂ (λ (l : List Event) (v : Event). l ++ v ∷ []) c.in_ok-reserve.ensures.items c.in_ok-shared.ensures in
     let ledgers : c.prepare_event.new.ledgers.items ≡ event_prepared (length c.self.inside.events.items) c.args.event.now c.args.volumes.now c.self.inside.ledgers.items =
-    c.in_ok-prepare_event.ensures.ok ∙ ap (λ (n : ℕ). event_prepared n c.args.event.now c.args.volumes.now c.self.inside.ledgers.items) place in
+    (rw c.get.ensures at c.in_ok-prepare_event.ensures.ok) ∙ ap (λ (n : ℕ). event_prepared n c.args.event.now c.args.volumes.now c.self.inside.ledgers.items) place in
     subst (λ es. IsBook es c.self.inside.added c.prepare_event.new.ledgers.items) (sym items)
     (subst (λ ls. IsBook (c.self.inside.events.items ++ c.args.event.now ∷ []) c.self.inside.added ls) (sym ledgers) made)
