@@ -12,6 +12,7 @@ use lg_base::{BufferedFeed, Feed, NoMemory, OutputBuffer, Sink, Stop};
 use lg_store::Solo;
 use lg_views::ScriptLine;
 use std::alloc::Global;
+use std::mem;
 
 /// Runs a script on one thread, over ledgers of its own, and writes the output: a line for each reply, as soon as there is
 /// one, then a line for each event. Nothing is written where memory is wanting for the run itself; a call for which it is
@@ -28,9 +29,21 @@ pub fn run_script<K: Sink>(alloc: Global, script: &Script, out: &mut K) -> RunEn
         Err(NoMemory) => return RunEnd::NoMemory,
     };
     match write_output(&mut buffer, &mut solo, script.as_slice(), out) {
-        Ok(()) => RunEnd::Done,
-        Err(Stop) => RunEnd::WriteFault,
+        Ok(()) => {
+            leave(solo);
+            RunEnd::Done
+        }
+        Err(Stop) => {
+            leave(solo);
+            RunEnd::WriteFault
+        }
     }
+}
+
+/// Leaves the memory of the ledgers to the end of the process. A run is the last thing that its process does, and to give
+/// that memory back piece by piece would take as long as the answers of many lines.
+fn leave(solo: Solo) {
+    mem::forget(solo);
 }
 
 /// Runs the lines on ledgers without entries, and writes the output through the buffer.

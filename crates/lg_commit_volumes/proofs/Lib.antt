@@ -8,4 +8,3 @@ pub mod ExampleLemmas
 pub mod LawLemmas
 pub mod NumberLemmas
 pub mod HeldLemmas
-pub mod EffectiveLemmas
