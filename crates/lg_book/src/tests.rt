@@ -199,9 +199,9 @@ fn finds_a_deposit(rt: HostRuntime) -> Result<(), Fail> {
 }
 
 // What users:1 has taken in, by the volumes.
-fn input(volumes: Option<AccountVolumes>) -> Option<u128> {
+fn input(volumes: Option<Shared<AccountVolumes>>) -> Option<u128> {
     let accounts = volumes?;
-    let assets = accounts.find(b"users:1")?;
+    let assets = accounts.get().find(b"users:1")?;
     let own = assets.find(b"USD/2")?;
     Some(own.input)
 }
