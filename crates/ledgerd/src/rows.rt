@@ -8,7 +8,7 @@ pub struct Row {
 }
 
 /// Worked scripts.
-pub const ROWS: [Row; 24] = [
+pub const ROWS: [Row; 25] = [
     Row {
         name: "postings are tried in their order",
         script: br#"{"now":"2024-01-01T00:00:00Z","method":"POST","path":"/v2/default/transactions","body":{"postings":[{"source":"world","destination":"a","amount":50,"asset":"EUR"},{"source":"a","destination":"b","amount":50,"asset":"EUR"}]}}
@@ -346,6 +346,18 @@ pub const ROWS: [Row; 24] = [
 {"event":0,"made":{"name":"default","addedAt":"1970-01-01T00:00:00Z","bucket":"_default","metadata":{}}}
 {"event":1,"ledger":"default","entry":{"type":"NEW_TRANSACTION","data":{"transaction":{"id":1,"postings":[{"source":"a","destination":"b","amount":5,"asset":"EUR"}],"metadata":{},"timestamp":"2024-01-01T00:00:00Z"},"accountMetadata":{}},"date":"2024-01-01T00:00:00Z","form":2,"id":1,"hash":"mJcxorXlJ1f15dxZwFFaXpEOw4HdgkTFxeH53567LPE="}}
 {"event":2,"ledger":"default","entry":{"type":"REVERTED_TRANSACTION","data":{"revertedTransactionID":1,"transaction":{"id":2,"postings":[{"source":"b","destination":"a","amount":5,"asset":"EUR"}],"metadata":{"com.formance.spec/state/reverts":"1"},"timestamp":"2024-01-01T00:00:00Z"}},"date":"2024-01-01T00:00:00Z","form":2,"id":2,"hash":"3/U+IPMWsNtc1uTUlAoHjNQIdGNGpIYE+z8AWMMw5zE="}}
+"#,
+    },
+    Row {
+        name: "lines of other kinds",
+        script: b"[]\n{}\n{\"now\":\"x\"}\n{\"now\":\"2024-01-01T00:00:00Z\",\"phase\":1000000}\n\xff\n[[[[[[[[[[[[[[[[[[[[[[[[[[[[[[[[[[[[[[[[[[[[[[[[[[[[[[[[[[[[[[[[[\n",
+        output: br#"{"line":1,"front":1,"events":0,"hit":false,"status":400,"body":{"errorCode":"VALIDATION","errorMessage":"line: type"}}
+{"line":2,"front":1,"events":0,"hit":false,"status":400,"body":{"errorCode":"VALIDATION","errorMessage":"line: now: missing"}}
+{"line":3,"front":1,"events":0,"hit":false,"status":400,"body":{"errorCode":"VALIDATION","errorMessage":"line: now: form"}}
+{"line":4,"front":1,"events":0,"hit":false,"status":400,"body":{"errorCode":"VALIDATION","errorMessage":"line: phase: form"}}
+{"line":5,"front":1,"events":0,"hit":false,"status":400,"body":{"errorCode":"VALIDATION","errorMessage":"line: syntax at byte 0"}}
+{"line":6,"front":1,"events":0,"hit":false,"status":400,"body":{"errorCode":"VALIDATION","errorMessage":"line: too deep at byte 64"}}
+{"event":0,"made":{"name":"default","addedAt":"1970-01-01T00:00:00Z","bucket":"_default","metadata":{}}}
 "#,
     },
 ];
