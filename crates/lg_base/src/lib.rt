@@ -32,6 +32,3 @@ pub use source::Source;
 pub use status::Status;
 pub use std::alloc::AllocError as NoMemory;
 pub use texts::{feed_escaped, feed_json_text, feed_number};
-
-#[cfg(test)]
-mod tests;

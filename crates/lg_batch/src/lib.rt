@@ -10,8 +10,6 @@ mod output;
 mod run;
 mod run_end;
 mod script;
-#[cfg(test)]
-mod script_tests;
 mod stops;
 mod text_lines;
 

@@ -6,7 +6,6 @@ mod BookReads
 mod Copies
 mod BookSteps
 pub mod EntryIds
-mod ExampleSteps
 mod ForgetSteps
 mod IndexSteps
 mod RecordSteps

@@ -10,8 +10,6 @@ mod opening;
 mod readings;
 mod records;
 mod replies;
-#[cfg(test)]
-mod tests;
 mod volumes;
 
 pub use book::Book;

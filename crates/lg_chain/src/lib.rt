@@ -6,6 +6,3 @@ mod sealing;
 
 pub use hash_feed::HashFeed;
 pub use sealing::{input_hash, seal, seal_first};
-
-#[cfg(test)]
-mod tests;

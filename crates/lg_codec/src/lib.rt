@@ -37,6 +37,3 @@ pub use lg_base::NoMemory;
 pub use replies::{reply_text, status_of};
 pub use stop::CodecStop;
 pub use writes::{ledger_of_json, write_of_json};
-
-#[cfg(test)]
-mod tests;

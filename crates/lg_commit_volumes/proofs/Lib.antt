@@ -4,7 +4,6 @@ pub mod MapLemmas
 pub mod SideLemmas
 pub mod EntryLemmas
 pub mod AroundLemmas
-pub mod ExampleLemmas
 pub mod LawLemmas
 pub mod NumberLemmas
 pub mod HeldLemmas

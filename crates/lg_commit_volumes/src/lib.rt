@@ -11,6 +11,3 @@ mod sums;
 pub use first::first_volumes;
 pub use lg_base::NoMemory;
 pub use lg_book::FirstVolumes;
-
-#[cfg(test)]
-mod tests;

@@ -61,6 +61,3 @@ pub type Meta = NameMap<TextGrammar, Text>;
 
 /// Metadata of accounts.
 pub type AccountMeta = NameMap<AddressGrammar, Meta>;
-
-#[cfg(test)]
-mod tests;

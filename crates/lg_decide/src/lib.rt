@@ -22,8 +22,3 @@ pub use lg_views::{Decided, NoMemory};
 pub use lg_weigh::{StripeSet, stripes_of};
 pub use looked::Looked;
 pub use writes::decide_write;
-
-#[cfg(test)]
-mod call_tests;
-#[cfg(test)]
-mod tests;

@@ -7,8 +7,3 @@ pub mod parts;
 
 pub use lg_views::ReadEntry;
 pub use lines::{LineFault, entry_of_line};
-
-#[cfg(test)]
-mod body_tests;
-#[cfg(test)]
-mod tests;

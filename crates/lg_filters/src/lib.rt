@@ -9,6 +9,3 @@ mod reading;
 mod values;
 
 pub use reading::{filter_of_json, read_filter};
-
-#[cfg(test)]
-mod tests;

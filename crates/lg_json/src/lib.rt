@@ -19,6 +19,3 @@ mod word;
 pub use json::{Json, JsonFault, JsonList, Member, MemberList};
 pub use reader::read;
 pub use std::alloc::AllocError as NoMemory;
-
-#[cfg(test)]
-mod tests;

@@ -13,6 +13,3 @@ pub type KeyTable = PreparedTable<KeyGrammar, Kept>;
 
 /// The references of transactions, each with its transaction's id.
 pub type ReferenceTable = PreparedTable<ReferenceGrammar, u64>;
-
-#[cfg(test)]
-mod tests;

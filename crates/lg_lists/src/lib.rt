@@ -10,6 +10,3 @@ mod queries;
 pub use lists::Lists;
 pub use number_parameters::{group_by, page_size};
 pub use queries::{items_query, ledgers_query, logs_query, volumes_query};
-
-#[cfg(test)]
-mod tests;

@@ -12,6 +12,3 @@ mod places;
 pub use change::DatedChange;
 pub use history::MetaHistory;
 pub use lg_types::MetaChange;
-
-#[cfg(test)]
-mod tests;

@@ -16,6 +16,3 @@ mod tree;
 pub use index::MoveIndex;
 pub use lg_base::NoMemory;
 pub use lg_types::Move;
-
-#[cfg(test)]
-mod tests;

@@ -10,6 +10,3 @@ mod steps;
 pub use runs::Runs;
 pub use std::alloc::AllocError as NoMemory;
 pub use steps::Steps;
-
-#[cfg(test)]
-mod tests;

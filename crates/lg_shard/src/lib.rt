@@ -24,6 +24,3 @@ pub use lg_types::Class;
 pub use shard::Shard;
 pub use shards::Shards;
 pub use stripes::stripe_of;
-
-#[cfg(test)]
-mod tests;

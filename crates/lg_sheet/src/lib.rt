@@ -13,6 +13,3 @@ pub use lg_base::NoMemory;
 pub use lg_types::Balances;
 pub use sheet::Sheet;
 pub use stop::SheetStop;
-
-#[cfg(test)]
-mod tests;

@@ -10,6 +10,3 @@ mod solo;
 pub use lg_base::NoMemory;
 pub use lg_views::Answer;
 pub use solo::Solo;
-
-#[cfg(test)]
-mod tests;

@@ -8,9 +8,6 @@
 mod print;
 mod range;
 mod read;
-#[cfg(test)]
-mod tests;
-
 pub use print::print_moment;
 pub use range::{FIRST_MOMENT, LAST_MOMENT, is_moment};
 pub use read::{BadMoment, read_moment};

@@ -11,6 +11,3 @@ mod words;
 
 pub use lg_base::NoMemory;
 pub use tokens::token_of;
-
-#[cfg(test)]
-mod tests;

@@ -14,6 +14,3 @@ mod tokens;
 
 pub use lg_codec::CodecStop;
 pub use tokens::read_token;
-
-#[cfg(test)]
-mod tests;

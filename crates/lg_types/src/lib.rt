@@ -51,6 +51,3 @@ pub use refusals::{FaultKind, ImportCause, Reason, Refusal};
 
 /// The entries of a log.
 pub type Entries = List<Entry>;
-
-#[cfg(test)]
-mod tests;

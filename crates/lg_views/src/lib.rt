@@ -44,6 +44,3 @@ pub type BalanceList = List<BalanceItem>;
 
 /// What became of the elements of a list.
 pub type BulkList = List<BulkItem>;
-
-#[cfg(test)]
-mod tests;

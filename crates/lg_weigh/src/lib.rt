@@ -15,6 +15,3 @@ pub use stripes::stripes_of;
 pub use trials::try_write;
 pub use weighed::Weighed;
 pub use weighing::weigh;
-
-#[cfg(test)]
-mod tests;

@@ -1,4 +1,0 @@
-use Rattle.lg_moves.proofs.tests.readings_at_dates_without_order.Given as goal
-
-abbrev pub ghosts-reads_mixed : goal.ghosts-reads_mixed
-ghosts-reads_mixed g a = record { name = a.blank.name; parts = a.blank.parts }

@@ -1,4 +1,0 @@
-use Rattle.lg_moves.proofs.tests.readings_of_worked_moves.Given as goal
-
-abbrev pub ghosts-reads_worked : goal.ghosts-reads_worked
-ghosts-reads_worked g a = record { name = a.blank.name; parts = a.blank.parts }
