@@ -8,6 +8,7 @@
 mod print;
 mod range;
 mod read;
+
 pub use print::print_moment;
 pub use range::{FIRST_MOMENT, LAST_MOMENT, is_moment};
 pub use read::{BadMoment, read_moment};
