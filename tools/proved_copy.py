@@ -19,6 +19,7 @@ BENCHES = os.path.join(TOP, "benches")
 BENCH_ENDING = ".bench"
 SOURCES = (".rt", ".antt", BENCH_ENDING)
 INTERVAL = 0.5
+SETTLED_AFTER = 4.0
 SHOWN_LINES = 40
 ENDS_WITH_PARENT = 1
 
@@ -99,22 +100,22 @@ class Progress:
 
     def __init__(self, program, names, folder):
         self.program, self.names, self.folder = program, names, folder
-        self.kept, self.seen, self.told = set(), set(), set()
+        self.seen, self.told = {}, set()
 
     def say(self, text):
         print("%s: %s" % (self.program, text), file=sys.stderr, flush=True)
 
     def look(self, log):
         """A crate whose folder `out` stands for a while is being proved, where the log doesn't say that it is kept."""
-        self.kept = set(re.findall(r"(?m)^rt: (\w+) is kept: ", log))
-        begun = {name for name in self.names if os.path.isdir(os.path.join(self.folder, "crates", name, "out"))} - self.kept
+        kept = set(re.findall(r"(?m)^rt: (\w+) is kept: ", log))
         for name in self.names:
-            if name in begun & self.seen - self.told:
-                if not self.told and self.kept:
-                    self.say("%d of %d crates were proved before" % (len(self.kept), len(self.names)))
+            if name in kept | self.told or not os.path.isdir(os.path.join(self.folder, "crates", name, "out")):
+                continue
+            if time.time() - self.seen.setdefault(name, time.time()) > SETTLED_AFTER:
+                if not self.told and kept:
+                    self.say("%d of %d crates were proved before" % (len(kept), len(self.names)))
                 self.told.add(name)
-                self.say("proving %s, %d of %d" % (name, len(self.kept) + len(self.told), len(self.names)))
-        self.seen = begun
+                self.say("proving %s, %d of %d" % (name, len(kept | self.told), len(self.names)))
 
 
 def prove(name, folder, progress):
