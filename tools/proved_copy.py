@@ -19,7 +19,6 @@ BENCHES = os.path.join(TOP, "benches")
 BENCH_ENDING = ".bench"
 SOURCES = (".rt", ".antt", BENCH_ENDING)
 INTERVAL = 0.5
-SETTLED_AFTER = 4.0
 SHOWN_LINES = 40
 ENDS_WITH_PARENT = 1
 
@@ -100,22 +99,30 @@ class Progress:
 
     def __init__(self, program, names, folder):
         self.program, self.names, self.folder = program, names, folder
-        self.seen, self.told = {}, set()
+        self.seen, self.told = set(), set()
 
     def say(self, text):
         print("%s: %s" % (self.program, text), file=sys.stderr, flush=True)
 
+    def is_begun(self, name):
+        """Whether the crate is being proved: `rt ci` has made its folder for the library, and no library stands there. A program
+        has none."""
+        out = os.path.join(self.folder, "crates", name, "out")
+        if name == self.program:
+            return os.path.isdir(out)
+        return os.path.isdir(os.path.join(out, "rlib")) and not os.path.exists(os.path.join(out, "rlib", name + ".rlib"))
+
     def look(self, log):
-        """A crate whose folder `out` stands for a while is being proved, where the log doesn't say that it is kept."""
+        """Tells of each crate whose proof has begun, once that is seen twice."""
         kept = set(re.findall(r"(?m)^rt: (\w+) is kept: ", log))
+        begun = {name for name in self.names if self.is_begun(name)} - kept
         for name in self.names:
-            if name in kept | self.told or not os.path.isdir(os.path.join(self.folder, "crates", name, "out")):
-                continue
-            if time.time() - self.seen.setdefault(name, time.time()) > SETTLED_AFTER:
+            if name in begun & self.seen - self.told:
                 if not self.told and kept:
                     self.say("%d of %d crates were proved before" % (len(kept), len(self.names)))
                 self.told.add(name)
                 self.say("proving %s, %d of %d" % (name, len(kept | self.told), len(self.names)))
+        self.seen = begun
 
 
 def prove(name, folder, progress):
