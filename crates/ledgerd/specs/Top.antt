@@ -14,7 +14,11 @@ use Rattle.lg_batch.specs.Runs.{IsOutputOf}
 use Rattle.lg_views.specs.declared.lines.ScriptLine.{ScriptLine}
 use Rattle.ledgerd.specs.Errors.{error_text}
 use Rattle.ledgerd.specs.Limits.{line_count}
-use Rattle.ledgerd.specs.Words.{IsRun}
+use Rattle.ledgerd.specs.Words.{Asks}
+use Rattle.ledgerd.specs.declared.words.Command.{Command}
+use Rattle.ledgerd.specs.declared.words.Command.TheVariants.{Run, Make, Script, Usage}
+use Rattle.lg_generator.specs.Made.{made_script}
+use Rattle.lg_generator.specs.Summaries.{IsSummary}
 
 -- the input was read to its end, and has no more bytes and lines than the program takes
 pub record ReadInput {S : Type 0} (source : SourceGhosts S) (old new : S) (input : List ℕ) : Type 0 where
@@ -60,19 +64,37 @@ Runs s k source source' sink sink' Memory = sink' ≡ sink
 Runs s k source source' sink sink' InputLimit = PassesLimit s source source' × (sink' ≡ sink)
 Runs s k source source' sink sink' BadLines = ⊥
 
--- the whole program, by its status: the words are judged before anything is read
-pub record RunsWords {S K : Type 0} (s : SourceGhosts S) (k : SinkGhosts K) (words : List (List ℕ)) (source source' : S) (sink sink' : K) (status : Status) : Type 0 where
-  pub is_run : IsRun words
-  pub runs : Runs s k source source' sink sink' status
+-- how the writing of a text ends: all of it was written, or a front of it where the sink failed, or nothing where memory is wanting
+abbrev pub Prints : {K : Type 0} → SinkGhosts K → List ℕ → K → K → Status → Type 0
+Prints k text sink sink' Done = HoldsWhole k sink sink' text
+Prints k text sink sink' WriteFault = Rose (k.faults sink) (k.faults sink') × HoldsFront k sink sink' text
+Prints k text sink sink' Memory = sink' ≡ sink
+Prints k text sink sink' status = ⊥
 
+-- how the run of a made script ends: the summary was written, or a front of it, or nothing
+abbrev pub Makes : {K : Type 0} → SinkGhosts K → ℕ → ℕ → K → K → Status → Type 0
+Makes k seed lines sink sink' Done = (text : List ℕ) × IsSummary seed lines text × HoldsWhole k sink sink' text
+Makes k seed lines sink sink' WriteFault = Rose (k.faults sink) (k.faults sink') × ((text : List ℕ) × IsSummary seed lines text × HoldsFront k sink sink' text)
+Makes k seed lines sink sink' Memory = sink' ≡ sink
+Makes k seed lines sink sink' status = ⊥
+
+-- how a command ends; only `run` reads the source
+abbrev pub Does : {S K : Type 0} → SourceGhosts S → SinkGhosts K → Command → S → S → K → K → Status → Type 0
+Does s k Run source source' sink sink' status = Runs s k source source' sink sink' status
+Does s k (Make seed lines) source source' sink sink' status = (source' ≡ source) × Makes k seed lines sink sink' status
+Does s k (Script seed lines) source source' sink sink' status = (source' ≡ source) × Prints k (made_script seed lines) sink sink' status
+Does s k Usage source source' sink sink' status = (source' ≡ source) × Prints k (error_text Words) sink sink' status
+
+-- the words ask for no command; nothing is read and nothing written
 pub record RefusesWords {S K : Type 0} (words : List (List ℕ)) (source source' : S) (sink sink' : K) : Type 0 where
-  pub is_no_run : ¬ (IsRun words)
+  pub asks_nothing : (c : Command) → ¬ (Asks words c)
   pub unread : source' ≡ source
   pub unwritten : sink' ≡ sink
 
+-- the whole program, by its status: the words are judged before anything is read
 abbrev pub Ran : {S K : Type 0} → SourceGhosts S → SinkGhosts K → List (List ℕ) → S → S → K → K → Status → Type 0
 Ran s k words source source' sink sink' Words = RefusesWords words source source' sink sink'
-Ran s k words source source' sink sink' status = RunsWords s k words source source' sink sink' status
+Ran s k words source source' sink sink' status = (c : Command) × Asks words c × Does s k c source source' sink sink' status
 
 -- the line of the status stands on standard error, as far as that took it
 abbrev pub Reports : {E : Type 0} → SinkGhosts E → E → E → Status → Type 0

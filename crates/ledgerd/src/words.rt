@@ -1,23 +1,69 @@
 //! The words of the command line.
 
-ghost use Rattle.std.specs.Prelude.{◌≡◌, ◌↔◌, IsTrue, codes, map, string_bytes};
-ghost use Rattle.ledgerd.specs.Words.{IsRun};
+ghost use Rattle.std.specs.Prelude.{◌≡◌, ◌^◌, ◌<◌, ◌≤◌, [], ◌∷◌, MatchOption, codes, decimal, map, string_bytes};
+ghost use Rattle.ledgerd.specs.Words.{IsCommandOf, IsCount};
 
-/// Whether the words are `run` alone.
-pub fn is_run(words: &[String]) -> bool
-    ensures { IsTrue result ↔ IsRun (map string_bytes words.now) }
+use lg_targets::read_number;
+
+/// The most lines of a made script.
+const MOST_LINES: u64 = 100_000;
+
+/// What the words ask for.
+#[derive(Clone, Copy, PartialEq, Eq, Debug)]
+pub enum Command {
+    /// Run the script of standard input.
+    Run,
+    /// Make a script of so many lines from a seed, run it, and write a summary.
+    Make { seed: u64, lines: u32 },
+    /// Make that script, and write it.
+    Script { seed: u64, lines: u32 },
+    /// Write the usage line.
+    Usage,
+}
+
+/// What the words ask for, and `None` where they are of no form.
+pub fn read_words(words: &[String]) -> Option<Command>
+    ensures { IsCommandOf (map string_bytes words.now) result }
 {
     match words {
-        [word] => is_word_run(word.as_bytes()),
-        _ => false,
+        [word] => read_word(word.as_bytes()),
+        [word, seed, lines] => read_made(word.as_bytes(), seed.as_bytes(), lines.as_bytes()),
+        _ => None,
     }
 }
 
-fn is_word_run(bytes: &[u8]) -> bool
-    ensures { IsTrue result ↔ (bytes.now ≡ codes "run") }
+/// What one word asks for.
+fn read_word(word: &[u8]) -> Option<Command>
+    ensures { IsCommandOf (word.now ∷ []) result }
 {
-    match bytes {
-        b"run" => true,
-        _ => false,
+    match word {
+        b"run" => Some(Command::Run),
+        b"usage" => Some(Command::Usage),
+        _ => None,
+    }
+}
+
+/// What a word with a seed and a number of lines asks for.
+fn read_made(word: &[u8], seed: &[u8], lines: &[u8]) -> Option<Command>
+    ensures { IsCommandOf (word.now ∷ (seed.now ∷ (lines.now ∷ []))) result }
+{
+    let seed = read_number(seed)?;
+    let lines = read_count(lines)?;
+    match word {
+        b"make" => Some(Command::Make { seed, lines }),
+        b"script" => Some(Command::Script { seed, lines }),
+        _ => None,
+    }
+}
+
+/// A number of lines, from 1 to 100,000.
+fn read_count(bytes: &[u8]) -> Option<u32>
+    ensures { IsCount bytes.now result }
+{
+    let number = read_number(bytes)?;
+    if 1 <= number && number <= MOST_LINES {
+        Some(number as u32)
+    } else {
+        None
     }
 }

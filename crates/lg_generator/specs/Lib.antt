@@ -1,1 +1,4 @@
 pub mod Made
+pub mod MadeRuns
+pub mod Summaries
+pub mod SummaryParts
