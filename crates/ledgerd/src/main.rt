@@ -13,17 +13,26 @@ mod words;
 
 use adapters::{ReadSource, WriteSink};
 use lg_base::Status;
-use program::top;
+use program::{refuse, top};
 use std::alloc::AllocError;
 use std::env;
+use std::io::ErrorKind;
 use std::process::ExitCode;
 
-/// The words of the command line without the program's name; none where they can't be had.
+/// The words of the command line without the program's name; none where they can't be had for another reason than want of
+/// memory.
 fn words_of(rt: &HostRuntime) -> Result<Vec<String>, AllocError> {
     let mut words = Vec::new(rt.alloc());
-    if let Ok(args) = env::args(rt) {
-        for word in args.skip(1) {
-            words.push(word)?;
+    match env::args(rt) {
+        Ok(args) => {
+            for word in args.skip(1) {
+                words.push(word)?;
+            }
+        }
+        Err(fault) => {
+            if fault.kind() == ErrorKind::OutOfMemory {
+                return Err(AllocError);
+            }
         }
     }
     Ok(words)
@@ -38,7 +47,7 @@ fn main(rt: HostRuntime) -> ExitCode {
             &mut WriteSink::new(rt.stdout()),
             &mut WriteSink::new(rt.stderr()),
         ),
-        Err(AllocError) => Status::Memory,
+        Err(AllocError) => refuse(Status::Memory, &mut WriteSink::new(rt.stderr())),
     };
     ExitCode::from(status as u8)
 }

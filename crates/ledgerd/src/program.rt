@@ -1,6 +1,6 @@
 //! The program over any source and sinks.
 
-ghost use Rattle.std.specs.Prelude.{◌≤◌, map, string_bytes};
+ghost use Rattle.std.specs.Prelude.{◌≡◌, ◌≤◌, map, string_bytes};
 ghost use Rattle.ledgerd.specs.Errors.{error_text as text_of_error};
 ghost use Rattle.ledgerd.specs.Top.{RunsOn, Runs, Prints, Makes, Does, Ran, Reports};
 ghost use Rattle.ledgerd.specs.Words.{IsInLimits};
@@ -99,6 +99,15 @@ fn usage<K: Sink>(out: &mut K) -> Status
         Ok(()) => Status::Done,
         Err(Stop) => Status::WriteFault,
     }
+}
+
+/// Ends with a status before anything is done: its line stands on the error sink.
+pub fn refuse<E: Sink>(status: Status, error: &mut E) -> Status
+    ensures status { result ≡ status }
+    ensures reports { Reports E.Sink error.old error.new status }
+{
+    report(status, error);
+    status
 }
 
 fn report<E: Sink>(status: Status, error: &mut E)

@@ -104,6 +104,110 @@ fn call_with(alloc: Global, first: &str, second: &str) -> Result<Ending, Fail> {
     call(alloc, &words, &mut source)
 }
 
+/// What a command without input writes to the output.
+struct Made {
+    words: &'static [&'static str],
+    output: &'static [u8],
+}
+
+/// Commands that read nothing, with what they write.
+const MADE: [Made; 4] = [
+    Made {
+        words: &["usage"],
+        output: USAGE,
+    },
+    Made {
+        words: &["script", "1", "1"],
+        output: br#"{"caller":0,"phase":0,"now":"2024-01-01T00:00:00Z","method":"POST","path":"/v2/default/transactions","body":{"postings":[{"source":"world","destination":"customers:548","amount":1000,"asset":"USD/2"},{"source":"customers:548","destination":"shop:sales","amount":990,"asset":"USD/2"},{"source":"customers:548","destination":"shop:fees","amount":10,"asset":"USD/2"}]}}
+"#,
+    },
+    Made {
+        words: &["make", "1", "1"],
+        output: b"lines 1
+accepted 1
+entries 1
+shop:fees USD/2 10 0 10
+shop:sales USD/2 990 0 990
+world USD/2 0 1000 -1000
+head 6a95bbe8161286cabed967e1c74b332f937b7411bedf23cc11b06141323d2649
+",
+    },
+    Made {
+        words: &["make", "1", "10000"],
+        output: b"lines 10000
+accepted 10000
+entries 10000
+shop:fees USD/2 126000 14000 112000
+shop:sales USD/2 13284000 1476000 11808000
+world USD/2 1490000 13410000 -11920000
+head ae64fae74c317bd0bcd911c9449b423e0c8568643d4f95c449d1bd41482a640b
+",
+    },
+];
+
+fn words_of(alloc: Global, words: &[&str]) -> Result<Vec<String>, Fail> {
+    let mut all = Vec::new(alloc);
+    for word in words {
+        all.push(String::from_str(alloc, word)?)?;
+    }
+    Ok(all)
+}
+
+/// Whether a command writes what it has to, over a source whose first read fails.
+fn is_made(alloc: Global, row: &Made) -> Result<bool, Fail> {
+    let words = words_of(alloc, row.words)?;
+    let fails = vec![in alloc; 1u64]?;
+    let mut source = MemSource::new(b"[]".to_vec(alloc)?, fails, 10);
+    let ending = call(alloc, words.as_slice(), &mut source)?;
+    Ok(
+        ending.status == Status::Done
+            && ending.out.written() == row.output
+            && ending.error.written().is_empty(),
+    )
+}
+
+#[test]
+fn commands_without_input_write_what_they_have_to(rt: HostRuntime) -> Result<(), Fail> {
+    for row in &MADE {
+        let right = is_made(rt.alloc(), row)?;
+        assert!(rt; right, "{}", row.words[0]);
+    }
+    Ok(())
+}
+
+/// Words that ask for nothing.
+const REFUSED: [&[&str]; 9] = [
+    &[],
+    &["runs"],
+    &["usage", "x"],
+    &["make", "1"],
+    &["script", "1", "0"],
+    &["script", "1", "100001"],
+    &["script", "18446744073709551616", "1"],
+    &["make", "01", "1"],
+    &["make", "1", "+1"],
+];
+
+fn is_refused(alloc: Global, words: &[&str]) -> Result<bool, Fail> {
+    let words = words_of(alloc, words)?;
+    let mut source = CalmSource::new(Vec::new(alloc), 1);
+    let ending = call(alloc, words.as_slice(), &mut source)?;
+    Ok(
+        ending.status == Status::Words
+            && ending.out.written().is_empty()
+            && ending.error.written() == USAGE,
+    )
+}
+
+#[test]
+fn other_words_get_the_usage_line(rt: HostRuntime) -> Result<(), Fail> {
+    for words in &REFUSED {
+        let refused = is_refused(rt.alloc(), words)?;
+        assert!(rt; refused);
+    }
+    Ok(())
+}
+
 #[test]
 fn a_further_word_gets_the_usage_line(rt: HostRuntime) -> Result<(), Fail> {
     let ending = call_with(rt.alloc(), "run", "x")?;

@@ -1,6 +1,6 @@
 //! The words of the command line.
 
-ghost use Rattle.std.specs.Prelude.{◌≡◌, ◌^◌, ◌<◌, ◌≤◌, [], ◌∷◌, MatchOption, codes, decimal, map, string_bytes};
+ghost use Rattle.std.specs.Prelude.{◌≡◌, ◌↔◌, ◌≤◌, [], ◌∷◌, IsTrue, codes, decimal, map, string_bytes};
 ghost use Rattle.ledgerd.specs.Words.{IsCommandOf, IsCount};
 
 use lg_targets::read_number;
@@ -49,10 +49,30 @@ fn read_made(word: &[u8], seed: &[u8], lines: &[u8]) -> Option<Command>
 {
     let seed = read_number(seed)?;
     let lines = read_count(lines)?;
+    if is_make(word) {
+        Some(Command::Make { seed, lines })
+    } else if is_script(word) {
+        Some(Command::Script { seed, lines })
+    } else {
+        None
+    }
+}
+
+fn is_make(word: &[u8]) -> bool
+    ensures { IsTrue result ↔ (word.now ≡ codes "make") }
+{
     match word {
-        b"make" => Some(Command::Make { seed, lines }),
-        b"script" => Some(Command::Script { seed, lines }),
-        _ => None,
+        b"make" => true,
+        _ => false,
+    }
+}
+
+fn is_script(word: &[u8]) -> bool
+    ensures { IsTrue result ↔ (word.now ≡ codes "script") }
+{
+    match word {
+        b"script" => true,
+        _ => false,
     }
 }
 
@@ -60,10 +80,23 @@ fn read_made(word: &[u8], seed: &[u8], lines: &[u8]) -> Option<Command>
 fn read_count(bytes: &[u8]) -> Option<u32>
     ensures { IsCount bytes.now result }
 {
-    let number = read_number(bytes)?;
-    if 1 <= number && number <= MOST_LINES {
+    count_of(bytes, read_number(bytes)?)
+}
+
+/// The number of lines, where the number whose digits these are is one.
+fn count_of(digits: &[u8], number: u64) -> Option<u32>
+    requires { digits.now ≡ decimal number }
+    ensures { IsCount digits.now result }
+{
+    if is_count(number) {
         Some(number as u32)
     } else {
         None
     }
+}
+
+fn is_count(number: u64) -> bool
+    ensures { IsTrue result ↔ ((1 ≤ number) × (number ≤ 100000)) }
+{
+    1 <= number && number <= MOST_LINES
 }
