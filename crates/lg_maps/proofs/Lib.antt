@@ -1,0 +1,6 @@
+pub mod Behind
+pub mod Changed
+pub mod Chosen
+pub mod Kept
+pub mod Moving
+pub mod Shown
