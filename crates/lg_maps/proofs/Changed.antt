@@ -1,14 +1,13 @@
 -- What an edit of entries and places makes of the chosen pairs.
-use Rattle.std.proofs.Common.{◌≡◌, ◌⊎◌, inl, inr, ℕ, zero, suc, ◌+◌, ◌-◌, ◌<◌, ◌≤◌, eqb, cond, IsTrue, List, [], ◌∷◌, ◌++◌, map, length, get_or, set, insert, remove, refl, sym, ap, ap₂, subst, ◌∙◌, arith, length-set}
+use Rattle.std.proofs.Common.{◌≡◌, ◌⊎◌, inl, inr, ℕ, ◌+◌, ◌-◌, ◌<◌, ◌≤◌, cond, List, [], ◌∷◌, ◌++◌, map, length, get_or, set, insert, remove, refl, sym, ap, subst, ◌∙◌, arith, length-set}
 use Rattle.std.proofs.lemmas.Bool.{cases_lt, cases_eq, cases_order, eq-eqb, ne_eqb}
 use Rattle.std.proofs.lemmas.List.{get_or-map, get_or_default, get_or_past, get_or_append_left, get_or_push, get_or-set_same, get_or-set_other, length-map, length_push, same_lists}
 use Rattle.std.proofs.lemmas.List.Edits.{length-insert, length-remove, get_or-insert_below, get_or-insert_at, get_or-insert_above, get_or-remove_below, get_or-remove_above}
 use Rattle.std.proofs.lemmas.List.FromFn.{get_or-range_with_len, length-range_with_len}
 use Rattle.std.specs.List.{range_with_len}
-use Rattle.lg_containers.specs.NameOrder.{is_in_order}
 use Rattle.lg_maps.specs.Chosen.{chosen, held, IsOrder}
 use Rattle.lg_maps.specs.Moved.{moved}
-use Rattle.lg_maps.proofs.Chosen.{length-chosen, held_below, held_past, chosen_at, chosen_none, other_names}
+use Rattle.lg_maps.proofs.Chosen.{length-chosen, held_below, chosen_at, chosen_none, other_names}
 
 module _ {X : Type 0} where
   -- an entry put into its place, with no places
@@ -74,7 +73,7 @@ module _ {X : Type 0} (entries : List X) (places : List ℕ) (place : ℕ) (e : 
       same_lists _ _
       (length-chosen (entries ++ e ∷ []) (insert places place (length entries)) (inr length-more) ∙ length_push entries e ∙ ap (λ n. n + 1) (sym (length-chosen entries places (inr placed))) ∙ sym (length-insert (chosen places entries) place e fits_chosen))
       (λ k d lt. chosen_at (entries ++ e ∷ []) (insert places place (length entries)) k d below-more (inr length-more)
-                 ∙ at_by k d (omega (arith, lt, length-chosen (entries ++ e ∷ []) (insert places place (length entries)) (inr length-more), length-more)) (cases_order k place))
+      ∙ at_by k d (omega (arith, lt, length-chosen (entries ++ e ∷ []) (insert places place (length entries)) (inr length-more), length-more)) (cases_order k place))
 
 module _ {V : Type 0} (entries : List (List ℕ × V)) (places : List ℕ) (order : IsOrder entries places) where
   apart_by : (es : List (List ℕ × V)) → es ≡ entries → (i j : ℕ) → i < j → j < length entries → held places i ≡ held places j → ⊥
@@ -118,7 +117,7 @@ module _ {V : Type 0} (entries : List (List ℕ × V)) (places : List ℕ) (orde
         same_lists _ _
         (length-chosen (set entries (held places place) x) places whole-set ∙ length-set entries (held places place) x ∙ sym (length-set (chosen places entries) place x ∙ length-chosen entries places order.whole))
         (λ k d lt. chosen_at (set entries (held places place) x) places k d below-set whole-set
-                   ∙ set_by k d (omega (arith, lt, length-chosen (set entries (held places place) x) places whole-set, length-set entries (held places place) x)) (cases_eq k place))
+        ∙ set_by k d (omega (arith, lt, length-chosen (set entries (held places place) x) places whole-set, length-set entries (held places place) x)) (cases_eq k place))
 
   moved_other : (last at p : ℕ) → (p ≡ last → ⊥) → moved last at p ≡ p
   moved_other last at p ne = ap (λ b. cond b at p) (ne_eqb p last ne)
@@ -160,13 +159,21 @@ module _ {V : Type 0} (entries : List (List ℕ × V)) (places : List ℕ) (orde
       kept_by : (k c : ℕ) → k < length kept → (k < place) ⊎ (place ≤ k)
           → (j : ℕ) × (j < length entries) × (j ≡ place → ⊥) × (get_or kept k c ≡ moved last (held places place) (held places j)) × ((d : List ℕ × V) → get_or (remove (chosen places entries) place) k d ≡ get_or (chosen places entries) j d)
       kept_by k c lt (inl less) =
-          let fits : k < length entries = omega (arith, less, within) in
-          (k, fits, (λ h. omega (arith, h, less)), ap (λ ps. get_or ps k c) kept_is ∙ get_or-remove_below (map (moved last (held places place)) places) place c k less within_moved ∙ read_moved k c fits,
-           λ d. get_or-remove_below (chosen places entries) place d k less (omega (arith, within, length-chosen entries places order.whole)))
+          let fits : k < length entries = omega (arith, less, within) in (
+            k,
+            fits,
+            (λ h. omega (arith, h, less)),
+            ap (λ ps. get_or ps k c) kept_is ∙ get_or-remove_below (map (moved last (held places place)) places) place c k less within_moved ∙ read_moved k c fits,
+            λ d. get_or-remove_below (chosen places entries) place d k less (omega (arith, within, length-chosen entries places order.whole)),
+          )
       kept_by k c lt (inr le) =
-          let fits : k + 1 < length entries = omega (arith, lt, length-kept, shorter, is_last) in
-          (k + 1, fits, (λ h. omega (arith, h, le)), ap (λ ps. get_or ps k c) kept_is ∙ get_or-remove_above (map (moved last (held places place)) places) place c k le within_moved ∙ read_moved (k + 1) c fits,
-           λ d. get_or-remove_above (chosen places entries) place d k le (omega (arith, within, length-chosen entries places order.whole)))
+          let fits : k + 1 < length entries = omega (arith, lt, length-kept, shorter, is_last) in (
+            k + 1,
+            fits,
+            (λ h. omega (arith, h, le)),
+            ap (λ ps. get_or ps k c) kept_is ∙ get_or-remove_above (map (moved last (held places place)) places) place c k le within_moved ∙ read_moved (k + 1) c fits,
+            λ d. get_or-remove_above (chosen places entries) place d k le (omega (arith, within, length-chosen entries places order.whole)),
+          )
 
       pub below-kept : (k : ℕ) → k < length kept → get_or kept k 0 < length new
       below-kept k lt = below_in entries refl
@@ -182,12 +189,12 @@ module _ {V : Type 0} (entries : List (List ℕ × V)) (places : List ℕ) (orde
           same_lists _ _
           (length-chosen new kept (inr length-kept) ∙ omega (arith, length-remove (chosen places entries) place (omega (arith, within, length-chosen entries places order.whole)), length-chosen entries places order.whole, is_last, shorter))
           (λ k d lt. let fits : k < length kept = omega (arith, lt, length-chosen new kept (inr length-kept), length-kept) in
-                     let from = kept_by k k fits (cases_lt k place) in
-                     chosen_at new kept k d below-kept (inr length-kept)
-                     ∙ ap (λ v. get_or new v d) from.3
-                     ∙ (moved_by from.0 d from.1 from.2 (cases_eq (held places from.0) last)).1
-                     ∙ sym (chosen_at entries places from.0 d order.below order.whole)
-                     ∙ sym (from.4 d))
+          let from = kept_by k k fits (cases_lt k place) in
+          chosen_at new kept k d below-kept (inr length-kept)
+          ∙ ap (λ v. get_or new v d) from.3
+          ∙ (moved_by from.0 d from.1 from.2 (cases_eq (held places from.0) last)).1
+          ∙ sym (chosen_at entries places from.0 d order.below order.whole)
+          ∙ sym (from.4 d))
 
   -- the place of the last entry set
   module _ (last at : ℕ) (placed : length places ≡ length entries) where
@@ -205,14 +212,14 @@ module _ {V : Type 0} (entries : List (List ℕ × V)) (places : List ℕ) (orde
     set_moved place within is =
         same_lists _ _ (length-set places place at ∙ sym (length-map places (moved last at)))
         (λ k d lt. let fits : k < length entries = omega (arith, lt, length-set places place at, placed) in
-                   set_at_by place k within fits is (cases_eq k place) d ∙ sym (get_or-map (moved last at) places k k d (omega (arith, fits, placed))))
+        set_at_by place k within fits is (cases_eq k place) d ∙ sym (get_or-map (moved last at) places k k d (omega (arith, fits, placed))))
 
     pub none_moved : ((k : ℕ) → k < length entries → held places k ≡ last → ⊥) → places ≡ map (moved last at) places
     none_moved ne =
         same_lists _ _ (sym (length-map places (moved last at)))
         (λ k d lt. let fits : k < length entries = omega (arith, lt, placed) in
-                   get_or_default places k d k lt
-                   ∙ sym (get_or-map (moved last at) places k k d lt ∙ moved_other last at (held places k) (ne k fits)))
+        get_or_default places k d k lt
+        ∙ sym (get_or-map (moved last at) places k k d lt ∙ moved_other last at (held places k) (ne k fits)))
 
 -- places that count up stand for the entries as they are
 pub held_upto : (n k : ℕ) → held (range_with_len 0 n) k ≡ k

@@ -1,12 +1,12 @@
 -- Entries that places put in order, place by place.
-use Rattle.std.proofs.Common.{◌≡◌, ◌⊎◌, inl, inr, ℕ, zero, suc, ◌+◌, ◌<◌, ◌≤◌, Bool, true, false, IsTrue, List, [], ◌∷◌, ◌++◌, map, length, get_or, Option, Some, None, Result, Ok, Err, Ordering, Less, Equal, Greater, refl, sym, ap, ap₂, subst, ◌∙◌, arith, slice_get}
+use Rattle.std.proofs.Common.{◌≡◌, ◌⊎◌, inl, inr, ℕ, zero, suc, ◌<◌, ◌≤◌, true, IsTrue, List, [], ◌∷◌, map, length, get_or, Some, None, Result, Ok, Err, Ordering, Less, Equal, Greater, refl, sym, ap, subst, ◌∙◌, arith, slice_get}
 use Rattle.std.proofs.lemmas.Bool.{cases_lt, and_parts}
 use Rattle.std.proofs.lemmas.Cmp.{tied_itself}
 use Rattle.std.proofs.lemmas.List.{get_or-map, get_or_default, get_or_past, length-map}
 use Rattle.std.proofs.lemmas.Option.{slice_get-get_or, slice_get_past}
 use Rattle.std.specs.Cmp.Lexicographic.{nat_list_cmp_total}
-use Rattle.std.specs.FinMap.Entries.{below_all, find}
-use Rattle.std.specs.List.Sorted.{IsSearchInRange, IsBinarySearchResult, IsNonDecreasingBy}
+use Rattle.std.specs.FinMap.Entries.{below_all}
+use Rattle.std.specs.List.Sorted.{IsSearchInRange, IsBinarySearchResult}
 use Rattle.std.specs.Ordering.{is_lt, ordering_index}
 use Rattle.lg_containers.specs.NameOrder.{name_order, is_in_order}
 use Rattle.lg_containers.specs.Places.{IsAt, BelongsAt, IsPlace}
@@ -124,7 +124,7 @@ module _ {V : Type 0} (name : List ℕ) (entries : List (List ℕ × V)) (places
   place_found (Ok place) d range is = λ c. sym (order_placed place 0 c range) ∙ is 0
   place_found (Err place) d range is = λ rising.
       let parts = is (λ i j c le lt. subst (λ n. n ≤ ordering_index (order_at name (slice_get entries (get_or places j c)))) (sym (ap ordering_index (order_placed i c d (omega (arith, le, lt)))))
-                  (subst (λ n. ordering_index (name_order (get_or (chosen places entries) i d).0 name) ≤ n) (sym (ap ordering_index (order_placed j c d lt))) (rising i j d le (omega (arith, lt, same_length))))) in
+      (subst (λ n. ordering_index (name_order (get_or (chosen places entries) i d).0 name) ≤ n) (sym (ap ordering_index (order_placed j c d lt))) (rising i j d le (omega (arith, lt, same_length))))) in
       (λ k c low high. sym (order_placed k 0 c (omega (arith, high, range))) ∙ parts.0 k 0 low high, λ k c low high. sym (order_placed k 0 c (omega (arith, high, same_length))) ∙ parts.1 k 0 low (omega (arith, high, same_length)))
 
   found_in : (es : List (List ℕ × V)) → es ≡ entries → 0 < length places → (r : Result ℕ ℕ) → IsSearchInRange r (length places) → IsBinarySearchResult (λ q. order_at name (slice_get entries q)) places r → IsBinarySearchResult (λ p. name_order p.0 name) (chosen places entries) r

@@ -1,19 +1,19 @@
 -- What holds of the parts of a map after each change.
-use Rattle.std.proofs.Common.{◌≡◌, ◌⊎◌, inl, inr, ℕ, ◌+◌, ◌-◌, ◌<◌, ◌≤◌, ◌^◌, IsTrue, List, [], ◌∷◌, ◌++◌, length, get_or, set, insert, remove, take, drop, slice_get, Some, Ok, refl, sym, ap, ap₂, subst, ◌∙◌, arith}
-use Rattle.std.proofs.lemmas.List.{get_or_default, get_or-map, take_all, drop_all, length_push}
+use Rattle.std.proofs.Common.{◌≡◌, ◌⊎◌, inl, inr, ℕ, ◌+◌, ◌-◌, ◌<◌, ◌≤◌, ◌^◌, IsTrue, List, [], ◌∷◌, ◌++◌, length, get_or, set, insert, remove, slice_get, Some, Ok, refl, sym, ap, ap₂, subst, ◌∙◌, arith, length-set}
+use Rattle.std.proofs.lemmas.List.{get_or-map, take_all, drop_all, length_push}
 use Rattle.std.proofs.lemmas.List.Edits.{length-insert}
 use Rattle.std.proofs.lemmas.List.FromFn.{get_or-range_with_len, length-range_with_len}
 use Rattle.std.proofs.lemmas.Option.{slice_get-get_or}
 use Rattle.std.specs.FinMap.Entries.{put, where_key}
 use Rattle.std.specs.List.{range_with_len}
 use Rattle.lg_containers.specs.NameOrder.{name_order, is_in_order, other_than}
-use Rattle.lg_containers.specs.NameTable.{NameTable, pairs_of, get, remove as remove_name, insert as insert_name, from_pairs, keys-pairs}
+use Rattle.lg_containers.specs.NameTable.{NameTable, pairs_of, len, remove as remove_name, insert as insert_name, from_pairs, keys-pairs}
 use Rattle.lg_containers.specs.Places.{IsAt, BelongsAt}
-use Rattle.lg_containers.proofs.Placed.{found_at, put_at, inserted_at, taken_at, in_gap}
-use Rattle.lg_containers.proofs.Tables.{pairs_here, put_table, put_keeps, take_table, take_keeps}
+use Rattle.lg_containers.proofs.Placed.{put_at, inserted_at, taken_at, in_gap}
+use Rattle.lg_containers.proofs.Tables.{pairs_here, len_here, put_table, put_keeps, take_table, take_keeps}
 use Rattle.lg_maps.specs.Chosen.{chosen, held, IsOrder, IsPlaceRoom, IsKept, IsOneLess, IsSpread}
 use Rattle.lg_maps.specs.Contents.{name_at}
-use Rattle.lg_maps.proofs.Chosen.{length-chosen, held_below, chosen_at, chosen_none, stands_at}
+use Rattle.lg_maps.proofs.Chosen.{length-chosen, held_below, chosen_at, stands_at}
 use Rattle.lg_maps.proofs.Changed.{inserted_few, inserted_many, length-more, below-more, same_chosen, below-set, whole-set, set_chosen, held_upto}
 
 pub insert_end : {X : Type 0} (xs : List X) (x : X) → insert xs (length xs) x ≡ xs ++ x ∷ []
@@ -233,4 +233,49 @@ kept_copy entries own_entries places own_places entry_capacity place_capacity or
     let room : IsPlaceRoom (length entries) (length places) 0 place_capacity = copied_room (length entries) (length places) place_capacity order.whole none (subst (λ ps. length ps ≤ place_capacity) same_places places_fit) in
     subst (λ ps. IsKept own_entries ps 0 entry_capacity place_capacity) (sym same_places)
     (subst (λ es. IsKept es places 0 entry_capacity place_capacity) (sym same_entries)
-     (record { order = order; entry_room = omega (arith, fits, ap length same_entries); place_room = room; limit = omega (arith, limit) }))
+    (record { order = order; entry_room = omega (arith, fits, ap length same_entries); place_room = room; limit = omega (arith, limit) }))
+
+-- room made that counts for nothing yet
+pub kept_room : {V : Type 0} (entries new_entries : List (List ℕ × V)) (places new_places : List ℕ) (spare entry_capacity place_capacity capacity room : ℕ) → IsKept entries places spare entry_capacity place_capacity
+    → new_entries ≡ entries → IsSpread (length entries) places new_places → entry_capacity ≤ capacity → IsPlaceRoom (length entries) (length new_places) spare room
+    → IsKept new_entries new_places spare capacity room
+kept_room entries new_entries places new_places spare entry_capacity place_capacity capacity room kept same spread le fits =
+    kept_more entries new_entries places new_places spare capacity room kept.order same spread (omega (arith, kept.entry_room, le)) fits kept.limit
+
+pub shown_room : {V : Type 0} (entries new_entries : List (List ℕ × V)) (places new_places : List ℕ) → IsOrder entries places → new_entries ≡ entries → IsSpread (length entries) places new_places → chosen new_places new_entries ≡ chosen places entries
+shown_room entries new_entries places new_places order same spread = ap (chosen new_places) same ∙ spread_chosen entries places order new_places spread
+
+-- the entry that is lent, by the place that it has among the entries
+module _ {V : Type 0} (entries : List (List ℕ × V)) (places : List ℕ) (spare entry_capacity place_capacity : ℕ) (kept : IsKept entries places spare entry_capacity place_capacity)
+    (place : ℕ) (t : NameTable V) (e : from_pairs (chosen places entries) ≡ t) (within : place < len t)
+    (at : ℕ) (at_is : at ≡ held places place) where
+  pub lent_within : place < length entries
+  lent_within = subst (λ n. place < n) (sym (len_here (chosen places entries) t kept.order.rising e) ∙ length-chosen entries places kept.order.whole) within
+
+  pub lent_inside : at < length entries
+  lent_inside = subst (λ n. n < length entries) (sym at_is) (held_below entries places place kept.order.below kept.order.whole lent_within)
+
+  module _ (entry : List ℕ × V) (there : entry ≡ get_or entries at entry) where
+    stands_there : entry ≡ get_or entries (held places place) entry
+    stands_there = there ∙ ap (λ h. get_or entries h entry) at_is
+
+    pub lent_table_at : (w : V) → from_pairs (chosen places (set entries at (entry.0, w))) ≡ insert_name t (name_at t place) w
+    lent_table_at w = ap (λ h. from_pairs (chosen places (set entries h (entry.0, w)))) at_is ∙ lent_table entries places kept.order place lent_within t e entry stands_there w
+
+    pub lent_kept : (w : V) → IsKept (set entries at (entry.0, w)) places spare entry_capacity place_capacity
+    lent_kept w =
+        let same : length (set entries at (entry.0, w)) ≡ length entries = length-set entries at (entry.0, w) in
+        record {
+          order = subst (λ h. IsOrder (set entries h (entry.0, w)) places) (sym at_is) (lent_order entries places kept.order place lent_within t e entry stands_there w);
+          entry_room = omega (arith, same, kept.entry_room);
+          place_room = subst (λ n. IsPlaceRoom n (length places) spare place_capacity) (sym same) kept.place_room;
+          limit = omega (arith, same, kept.limit);
+        }
+
+    pub lent_value_at : slice_get (pairs_of t) place ≡ Some (name_at t place, entry.1)
+    lent_value_at = lent_value entries places kept.order place lent_within t e entry stands_there
+
+pub kept_at : {V : Type 0} (entries : List (List ℕ × V)) (places : List ℕ) (spare entry_capacity place_capacity capacity wide : ℕ) → capacity ≡ entry_capacity → wide ≡ place_capacity
+    → IsKept entries places spare entry_capacity place_capacity → IsKept entries places spare capacity wide
+kept_at entries places spare entry_capacity place_capacity capacity wide p q kept =
+    subst (λ r. IsKept entries places spare capacity r) (sym q) (subst (λ c. IsKept entries places spare c place_capacity) (sym p) kept)

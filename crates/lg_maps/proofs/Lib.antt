@@ -4,3 +4,4 @@ pub mod Chosen
 pub mod Kept
 pub mod Moving
 pub mod Shown
+pub mod Taken

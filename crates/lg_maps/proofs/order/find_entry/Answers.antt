@@ -16,8 +16,8 @@ bounds-entries-at g c =
 pub offset_bounds-entries-at : goal.offset_bounds-entries-at
 offset_bounds-entries-at g c =
     let less : c.entry_place-at.result < length c.args.entries.now =
-        subst (λ n. n < length c.args.entries.now) (sym c.entry_place-at.ensures)
-        (held_below c.args.entries.now c.args.places.now c.in-Ok.place c.requires.below c.requires.whole (within c.args.name.now c.args.entries.now c.args.places.now c.in-Ok.place c.requires c.in-Ok.ensures)) in
+    subst (λ n. n < length c.args.entries.now) (sym c.entry_place-at.ensures)
+    (held_below c.args.entries.now c.args.places.now c.in-Ok.place c.requires.below c.requires.whole (within c.args.name.now c.args.entries.now c.args.places.now c.in-Ok.place c.requires c.in-Ok.ensures)) in
     omega (arith, less)
 
 pub returns-in-Ok : goal.returns-in-Ok
