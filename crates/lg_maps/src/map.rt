@@ -1,6 +1,6 @@
 //! Maps from names.
 
-ghost use Rattle.std.specs.Prelude.{◌≡◌, OnOk, OnErr, IfOk, IsSome, Some, slice_get, unwrap_or};
+ghost use Rattle.std.specs.Prelude.{◌≡◌, ◌<◌, OnOk, OnErr, IfOk, IsSome, Some, slice_get, unwrap_or};
 ghost use Rattle.std.specs.Option.{option_copied, option_map};
 ghost use Rattle.std.specs.Borrow.{Lends, LendsIfOk, sem};
 ghost use Rattle.lg_containers.specs.NameTable as table;
@@ -78,6 +78,15 @@ impl<G: Grammar, V> NameMap<G, V> {
         ensures value { table.get self.old name.now ≡ Some result.now }
     {
         self.names.value_mut(name)
+    }
+
+    /// The value at the place in byte order, counted from 0.
+    pub fn value_at_mut(&mut self, place: usize) -> &mut V
+        requires { place < table.len self.old }
+        ensures* writes_back { sem 𝓛 (Lends (the_row G.row V.row G.State.row G.Grammar) V.row self.entry result (λ w. table.insert self.old (name_at self.old place) w)) }
+        ensures value { slice_get (table.pairs_of self.old) place ≡ Some (name_at self.old place, result.now) }
+    {
+        self.names.value_at_mut(place)
     }
 }
 
