@@ -1,13 +1,11 @@
 -- Searches through the fields of a head, one field after another.
-use Rattle.std.proofs.Common.{◌≡◌, ℕ, zero, suc, ◌+◌, ◌-◌, ◌<◌, ◌≤◌, Bool, true, false, cond, not, ◌&&◌, ◌||◌, List, [], ◌∷◌, ◌++◌, length, get_or, take, map, Option, Some, None, refl, sym, ap, ◌∙◌, arith, add-one}
+use Rattle.std.proofs.Common.{◌≡◌, ℕ, zero, suc, ◌+◌, ◌<◌, Bool, true, false, cond, not, ◌&&◌, ◌||◌, List, [], ◌∷◌, length, get_or, take, map, Option, Some, None, refl, sym, ap, ◌∙◌, arith, add-one}
 use Rattle.std.specs.Prelude.{find, codes}
 use Rattle.std.specs.List.{list_all}
 use Rattle.std.specs.Option.{option_map}
-use Rattle.std.proofs.lemmas.List.{map_more}
-use Rattle.std.proofs.lemmas.List.Folds.{find-append}
 use Rattle.std.proofs.lemmas.Bool.{false≢true}
 use Rattle.http1.specs.Fields.{Header, is_named}
-use Rattle.lg_heads.specs.Fields.{first_value, is_whole_number, is_same_number, keeps_length}
+use Rattle.lg_heads.specs.Fields.{first_value, is_same_number, keeps_length}
 
 none_of : {Y : Type 0} (t : Bool) (y : Y) (rest : Option Y) → cond t (Some y) rest ≡ None → (t ≡ false) × (rest ≡ None)
 none_of true y rest e = absurd (cc)

@@ -1,12 +1,11 @@
 -- What a prefix says of the bytes that it begins: heads, limits and the parts of a head.
-use Rattle.std.proofs.Common.{◌≡◌, ℕ, ◌+◌, ◌-◌, ◌<◌, ◌≤◌, ◌⊎◌, Bool, true, false, ◌==◌, List, [], ◌∷◌, ◌++◌, length, take, drop, fold, inl, inr, refl, sym, ap, ◌∙◌, subst, arith, append_assoc, append-nil}
+use Rattle.std.proofs.Common.{◌≡◌, ℕ, ◌+◌, ◌<◌, ◌⊎◌, false, List, [], ◌∷◌, ◌++◌, length, fold, inl, inr, refl, sym, ap, ◌∙◌, arith, append_assoc, append-nil}
 use Rattle.std.proofs.lemmas.List.Sums.{fold-append}
-use Rattle.std.proofs.lemmas.List.{append_cancel_left, append_cancel_right}
-use Rattle.httparse.specs.Grammar.{print_end, lf, RequestHead, print_request, ReadsRequest, HasNoRequest}
+use Rattle.httparse.specs.Grammar.{print_request, HasNoRequest}
 use Rattle.httparse.specs.Spans.{RequestExceeds}
 use Rattle.lg_heads.specs.Lines.{Lines, line_step, no_lines, lines_of, header_lines}
 use Rattle.lg_heads.specs.Scanning.{EndsHead}
-use Rattle.lg_heads.proofs.HeadLines.{EndsWithLine, head_ends, ended_grows}
+use Rattle.lg_heads.proofs.HeadLines.{head_ends, ended_grows}
 
 -- ---- the last element of a list
 

@@ -1,10 +1,10 @@
 -- One step of a scan.
-use Rattle.std.proofs.Common.{◌≡◌, ℕ, ◌+◌, ◌-◌, ◌<◌, ◌≤◌, List, [], ◌∷◌, ◌++◌, length, get_or, take, sym, ap, ◌∙◌, subst, arith}
+use Rattle.std.proofs.Common.{◌≡◌, ℕ, ◌+◌, ◌-◌, ◌<◌, ◌≤◌, List, length, get_or, take, sym, ap, ◌∙◌, subst, arith}
 use Rattle.std.proofs.lemmas.List.{take_more, length-take-le}
 use Rattle.std.proofs.lemmas.List.Sums.{fold_more}
 use Rattle.httparse.specs.Grammar.{HasNoRequest}
 use Rattle.lg_heads.specs.declared.head_scan.HeadScan.{HeadScan}
-use Rattle.lg_heads.specs.Lines.{Lines, line_step, no_lines, lines_of, header_lines, IsWithinLimits}
+use Rattle.lg_heads.specs.Lines.{Lines, line_step, no_lines, lines_of}
 use Rattle.lg_heads.specs.Scanning.{counted_lines, HasCounted, HasNoHead, EndsHead}
 use Rattle.lg_heads.proofs.Prefixes.{none_more}
 

@@ -1,5 +1,5 @@
 -- A verdict on a prefix is one on all the bytes.
-use Rattle.std.proofs.Common.{◌≡◌, ℕ, ◌+◌, ◌-◌, ◌<◌, ◌≤◌, List, [], ◌∷◌, ◌++◌, length, get_or, take, drop, Option, Some, None, refl, sym, ap, ◌∙◌, subst, arith, length-append}
+use Rattle.std.proofs.Common.{◌≡◌, ℕ, ◌+◌, ◌-◌, ◌<◌, ◌≤◌, List, ◌++◌, length, get_or, take, drop, Option, Some, None, refl, sym, ap, ◌∙◌, subst, arith, length-append}
 use Rattle.std.specs.Prelude.{IfSome}
 use Rattle.std.specs.Option.{option_map}
 use Rattle.std.proofs.lemmas.List.{take_more, take-append-drop, drop_more, take-append-le, drop-append-le, length-drop}
@@ -9,7 +9,7 @@ use Rattle.httparse.specs.Spans.{IsWithin, span_bytes}
 use Rattle.httparse.proofs.GrammarLemmas.{ReadsRequest-append}
 use Rattle.lg_heads.specs.declared.head.Head.{Head}
 use Rattle.lg_heads.specs.Lines.{IsWithinLimits, PassesLimits}
-use Rattle.lg_heads.specs.Verdicts.{IsWhole, IsBad, IsLong}
+use Rattle.lg_heads.specs.Verdicts.{IsBad, IsLong}
 use Rattle.lg_heads.specs.Heads.{IsHeadAt}
 
 span_bytes-append : (bytes more : List ℕ) (s : Span) (n : ℕ) → IsWithin n s → n ≤ length bytes → span_bytes (bytes ++ more) s ≡ span_bytes bytes s

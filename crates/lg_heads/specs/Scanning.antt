@@ -6,6 +6,10 @@ use Rattle.lg_heads.specs.declared.head_scan.HeadScan.{HeadScan}
 use Rattle.lg_heads.specs.declared.head_scan.Seen.{Seen}
 use Rattle.lg_heads.specs.declared.head_scan.Seen.TheVariants.{All, Empty, Full}
 
+-- how many bytes the scan has looked at
+abbrev pub place_of : HeadScan → ℕ
+place_of scan = scan.at
+
 -- the lines that the scan has counted
 abbrev pub counted_lines : HeadScan → Lines
 counted_lines scan = record { has_text = scan.has_text; ended = scan.lines }
@@ -32,13 +36,7 @@ pub record IsFull (scan : HeadScan) (bytes : List ℕ) : Type 0 where
   pub past : PassesLimits (take (scan.at + 1) bytes)
 
 -- why the scan stopped: it has seen all bytes, a byte that may end a head, or the place of a byte that passes a limit
-abbrev pub HasSeen : HeadScan → HeadScan → List ℕ → Seen → Type 0
-HasSeen old new bytes All = (new.at ≡ length bytes) × HasNoHead new bytes
-HasSeen old new bytes Empty = old.at < new.at
-HasSeen old new bytes Full = IsFull new bytes × HasNoHead new bytes
-
--- what a verdict on the bytes before the scan's place needs to know of what stopped it
-abbrev pub MayBeJudged : HeadScan → List ℕ → Seen → Type 0
-MayBeJudged scan bytes All = Unit {0}
-MayBeJudged scan bytes Empty = Unit {0}
-MayBeJudged scan bytes Full = IsFull scan bytes
+abbrev pub HasStopped : HeadScan → List ℕ → Seen → Type 0
+HasStopped scan bytes All = (place_of scan ≡ length bytes) × HasNoHead scan bytes
+HasStopped scan bytes Empty = Unit {0}
+HasStopped scan bytes Full = IsFull scan bytes × HasNoHead scan bytes

@@ -32,7 +32,7 @@ pub struct HeadScan {
 impl HeadScan {
     ghost use Rattle.std.specs.Bool.{OnTrue, OnFalse};
     ghost use Rattle.lg_heads.specs.Lines.{line_step};
-    ghost use Rattle.lg_heads.specs.Scanning.{counted_lines, EndsHead, HasCounted, HasNoHead, HasSeen};
+    ghost use Rattle.lg_heads.specs.Scanning.{place_of, counted_lines, EndsHead, HasCounted, HasNoHead, HasStopped};
 
     /// A scan that has looked at nothing.
     pub fn new() -> HeadScan
@@ -48,7 +48,7 @@ impl HeadScan {
 
     /// How many bytes it has looked at.
     pub fn at(&self) -> usize
-        ensures { result ≡ self.now.at }
+        ensures { result ≡ place_of self.now }
     {
         self.at
     }
@@ -58,7 +58,8 @@ impl HeadScan {
         requires counted { HasCounted self.old bytes.now }
         requires none { HasNoHead self.old bytes.now }
         ensures counted { HasCounted self.new bytes.now }
-        ensures seen { HasSeen self.old self.new bytes.now result }
+        ensures stopped { HasStopped self.new bytes.now result }
+        ensures moved { result ≡ Seen.Empty → place_of self.old < place_of self.new }
     {
         'scanning: while self.at < bytes.len() {
             let byte = bytes[self.at];

@@ -4,7 +4,7 @@ ghost use Rattle.std.specs.Prelude.{◌≡◌, ◌≢◌, ◌≤◌, length};
 ghost use Rattle.httparse.specs.Grammar.{RequestHead};
 ghost use Rattle.httparse.specs.Spans.{IsRequestWithin, IsRequestAt};
 ghost use Rattle.lg_heads.specs.Heads.{IsHeadAt, IsVerdict};
-ghost use Rattle.lg_heads.specs.Scanning.{HasCounted, MayBeJudged};
+ghost use Rattle.lg_heads.specs.Scanning.{place_of, HasCounted, HasStopped};
 
 use crate::fields::{closes, first_value, framing};
 use crate::head::Head;
@@ -16,8 +16,8 @@ use httparse::spans::{EMPTY_HEADER_SPAN, HeaderSpan, RequestSpans, parse_request
 /// Judges the bytes that the scan has looked at; `seen` is why it stopped.
 pub fn judge(bytes: &[u8], scan: &HeadScan, seen: Seen) -> Verdict
     requires counted { HasCounted scan.now bytes.now }
-    requires stopped { MayBeJudged scan.now bytes.now seen }
-    ensures verdict { IsVerdict bytes.now scan.now.at result }
+    requires stopped { HasStopped scan.now bytes.now seen }
+    ensures verdict { IsVerdict bytes.now (place_of scan.now) result }
     ensures open { result ≡ Verdict.Open → seen ≢ Seen.Full }
 {
     let front = &bytes[..scan.at()];

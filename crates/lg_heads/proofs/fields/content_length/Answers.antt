@@ -1,4 +1,4 @@
-use Rattle.std.proofs.Common.{◌≡◌, List, ℕ, Some, sym, ap, ◌∙◌}
+use Rattle.std.proofs.Common.{List, ℕ, Some, sym, ap, ◌∙◌}
 use Rattle.lg_heads.proofs.FieldLemmas.{both_true, first_keeps}
 use Rattle.lg_heads.proofs.fields.content_length.Goals as goal
 

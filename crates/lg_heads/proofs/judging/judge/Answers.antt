@@ -1,11 +1,10 @@
-use Rattle.std.proofs.Common.{◌≡◌, ℕ, ◌<◌, ◌≤◌, take, sym, subst, arith, rules}
+use Rattle.std.proofs.Common.{◌≡◌, ℕ, take, sym, subst, arith, rules}
 use denote.Enum.Bare.{same_true}
 use Rattle.httparse.specs.Grammar.{HasNoRequest, MayBecomeRequest}
-use Rattle.httparse.specs.Outcome.{IfComplete, OnPartial}
 use Rattle.lg_heads.specs.contracts.head_scan.Seen.{the_type}
 use Rattle.lg_heads.specs.declared.head_scan.Seen.TheVariants.{Full}
 use Rattle.lg_heads.specs.Lines.{IsWithinLimits}
-use Rattle.lg_heads.specs.Scanning.{MayBeJudged}
+use Rattle.lg_heads.specs.Scanning.{HasStopped}
 use Rattle.lg_heads.proofs.Prefixes.{exceeds_lines}
 use Rattle.lg_heads.proofs.VerdictLemmas.{head_of_prefix, bad_of_prefix, long_of_prefix}
 use Rattle.lg_heads.proofs.judging.judge.Goals as goal
@@ -20,8 +19,8 @@ returns-in-Ok-Partial-clause-verdict c =
     let none = rw c.in-Ok-Partial.field-0-is at c.in-Ok-Partial.ensures.partial in
     let may = rw c.in-Ok-Partial.field-0-is at c.in-Ok-Partial.ensures.unfinished in
     let full : c.args.seen ≡ Full = same_true the_type (search rules) _ _ (sym c.if-eq.ensures) in
-    let stopped = subst (MayBeJudged c.args.scan.now c.args.bytes.now) full c.requires.stopped in
-    long_of_prefix c.args.bytes.now c.args.scan.now.at stopped.more c.requires.counted.within stopped.past
+    let stopped = subst (HasStopped c.args.scan.now c.args.bytes.now) full c.requires.stopped in
+    long_of_prefix c.args.bytes.now c.args.scan.now.at stopped.0.more c.requires.counted.within stopped.0.past
     (subst (λ (n : ℕ). HasNoRequest (take n c.args.bytes.now)) c.at.ensures none)
     (subst (λ (n : ℕ). MayBecomeRequest (take n c.args.bytes.now)) c.at.ensures may)
 

@@ -1,4 +1,4 @@
-use Rattle.std.proofs.Common.{◌≤◌, ◌+◌, arith}
+use Rattle.std.proofs.Common.{arith}
 use Rattle.std.proofs.lemmas.Bool.{false≢true}
 use Rattle.lg_heads.proofs.ScanLemmas.{counted_more, no_head_more}
 use Rattle.lg_heads.proofs.head_scan.HeadScan.advance.Goals as goal

@@ -1,5 +1,5 @@
-use Rattle.std.proofs.Common.{◌≡◌, ℕ, ◌+◌, List, [], ◌∷◌, ◌++◌, length, arith, length-append, ap, ◌∙◌}
-use Rattle.httparse.specs.Grammar.{RequestHead, print_request, ReadsRequest}
+use Rattle.std.proofs.Common.{[], ◌∷◌, length, arith, length-append, ap}
+use Rattle.httparse.specs.Grammar.{print_request}
 use Rattle.lg_heads.proofs.HeadLines.{head_ends}
 use Rattle.lg_heads.proofs.head_scan.HeadScan.new.Goals as goal
 
