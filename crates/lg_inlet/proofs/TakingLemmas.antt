@@ -1,12 +1,15 @@
 -- How calls that take bytes from a source compose.
-use Rattle.std.proofs.Common.{◌≡◌, ℕ, ◌+◌, ◌-◌, ◌^◌, ◌<◌, ◌≤◌, ◌⊎◌, min, List, [], ◌∷◌, ◌++◌, length, Option, Some, None, inl, inr, refl, sym, ap, ◌∙◌, subst, arith, append_assoc, append-nil, length-append}
+use Rattle.std.proofs.Common.{◌≡◌, ℕ, ◌+◌, ◌-◌, ◌^◌, ◌<◌, ◌≤◌, ◌⊎◌, min, List, [], ◌∷◌, ◌++◌, length, drop, Option, Some, None, inl, inr, refl, sym, ap, ◌∙◌, subst, arith, append_assoc, append-nil, length-append}
+use Rattle.std.proofs.lemmas.List.{drop-append-le}
 use Rattle.lg_base.specs.Growth.{Rose}
 use Rattle.lg_base.specs.Told.{given, IsAtEnd}
 use Rattle.lg_base.specs.declared.source.Source.{Ghosts as SourceGhosts}
 use Rattle.lg_inlet.specs.declared.inbox.Inbox.{Inbox}
 use Rattle.lg_inlet.specs.declared.stopped.Stopped.{Stopped}
 use Rattle.lg_inlet.specs.declared.stopped.Stopped.TheVariants.{Fault, Spent, NoMemory, Full}
-use Rattle.lg_inlet.specs.Taking.{Takes, IsWanted, TakesWanted, TakesMore, GaveSome, StopsReading, TakesTooFew, StopsTaking}
+use Rattle.lg_base.specs.Reading.{TakesMore}
+use Rattle.lg_inlet.specs.Reading.{Fails, StopsAppending}
+use Rattle.lg_inlet.specs.Taking.{Takes, IsWanted, TakesWanted, TakesOnce, StopsReading, TakesTooFew, StopsTaking}
 use Rattle.lg_inlet.specs.Unread.{unread, allowance_of}
 
 pub given_none : (left : Option (List ℕ)) → left ≡ given [] left
@@ -40,7 +43,7 @@ module _ {S : Type 0} (source : SourceGhosts S) where
 
   -- one more read, made where more was wanted
   pub wanted_more : (wants : List ℕ → Type 0) (old mid new : S) (inbox between after : Inbox) (count : ℕ)
-      → TakesWanted wants source old mid inbox between → wants (unread between) → TakesMore source mid new between after count
+      → TakesWanted wants source old mid inbox between → wants (unread between) → TakesOnce source mid new between after count
       → TakesWanted wants source old new inbox after
   wanted_more wants old mid new inbox between after count a now b = record {
     came = a.came ++ b.came;
@@ -68,3 +71,37 @@ module _ {S : Type 0} (source : SourceGhosts S) where
   stops_wanting wants old mid new inbox between after NoMemory a now later b =
       record { came = a.came ++ b.came; given_are = a.takes.given_are ∙ ap (given a.came) b.given_are ∙ given_more a.came b.came (source.left new) }
   stops_wanting wants old mid new inbox between after Full a now later b = b
+
+  -- what one read put behind the bytes of the inbox
+  pub took_of : (old new : S) (inbox after : Inbox) (count : ℕ) → TakesMore source old new inbox.bytes.items after.bytes.items count
+      → after.start ≡ inbox.start → inbox.start ≤ length inbox.bytes.items → allowance_of inbox ≡ count + allowance_of after → TakesOnce source old new inbox after count
+  took_of old new inbox after count took same inside allowed = record {
+    came = took.piece;
+    takes = record {
+      given_are = took.bytes_are;
+      unread_are =
+          ap (λ (n : ℕ). drop n after.bytes.items) same
+          ∙ ap (λ (l : List ℕ). drop inbox.start l) took.after_is
+          ∙ drop-append-le inbox.start inbox.bytes.items took.piece inside;
+      allowed = omega (arith, took.length_is);
+    };
+    count_is = took.length_is;
+    ended = took.ended;
+  }
+
+  pub stops_of : (old new : S) (inbox after : Inbox) (why : Stopped) → StopsAppending source old new inbox.bytes.items after.bytes.items why
+      → after.start ≡ inbox.start → allowance_of after ≡ allowance_of inbox → StopsReading source old new inbox after why
+  stops_of old new inbox after Fault fails same allowed = (
+    record {
+      given_are = sym fails.left_is ∙ given_none (source.left new);
+      unread_are =
+          ap (λ (n : ℕ). drop n after.bytes.items) same
+          ∙ ap (λ (l : List ℕ). drop inbox.start l) fails.after_is
+          ∙ sym (append-nil (unread inbox));
+      allowed = omega arith;
+    },
+    fails.rose,
+  )
+  stops_of old new inbox after Spent fails same allowed = absurd fails
+  stops_of old new inbox after NoMemory fails same allowed = fails
+  stops_of old new inbox after Full fails same allowed = fails

@@ -10,7 +10,8 @@ use Rattle.lg_inlet.specs.declared.body_end.BodyEnd.TheVariants.{Whole, Cut}
 use Rattle.lg_inlet.specs.declared.inbox.Inbox.{Inbox}
 use Rattle.lg_inlet.specs.declared.stopped.Stopped.{Stopped}
 use Rattle.lg_inlet.specs.declared.stopped.Stopped.TheVariants.{Fault, Spent, NoMemory, Full}
-use Rattle.lg_inlet.specs.Taking.{IsWanted, GaveSome}
+use Rattle.lg_inlet.specs.Reading.{GaveSome}
+use Rattle.lg_inlet.specs.Taking.{IsWanted}
 use Rattle.lg_inlet.specs.Unread.{unread, allowance_of}
 
 -- fewer bytes than are needed

@@ -6,6 +6,7 @@ use Rattle.lg_base.specs.declared.source.Source.{Ghosts as SourceGhosts}
 use Rattle.lg_inlet.specs.declared.inbox.Inbox.{Inbox}
 use Rattle.lg_inlet.specs.declared.stopped.Stopped.{Stopped}
 use Rattle.lg_inlet.specs.declared.stopped.Stopped.TheVariants.{Fault, Spent, NoMemory, Full}
+use Rattle.lg_inlet.specs.Reading.{GaveSome}
 use Rattle.lg_inlet.specs.Unread.{unread, allowance_of}
 
 -- these bytes were taken from the source and stand behind those that were unread
@@ -26,16 +27,11 @@ pub record TakesWanted {S : Type 0} (wants : List ℕ → Type 0) (source : Sour
   pub wanted : IsWanted wants (unread inbox) came
 
 -- one read took so many bytes; none of them is the end
-pub record TakesMore {S : Type 0} (source : SourceGhosts S) (old new : S) (inbox after : Inbox) (count : ℕ) : Type 0 where
+pub record TakesOnce {S : Type 0} (source : SourceGhosts S) (old new : S) (inbox after : Inbox) (count : ℕ) : Type 0 where
   pub came : List ℕ
   pub takes : Takes source old new inbox after came
   pub count_is : length came ≡ count
   pub ended : count ≡ 0 → IsAtEnd (source.left new)
-
--- the source gave some bytes, which may be lost
-pub record GaveSome {S : Type 0} (source : SourceGhosts S) (old new : S) : Type 0 where
-  pub came : List ℕ
-  pub given_are : source.left old ≡ given came (source.left new)
 
 -- why one read gave nothing: it failed, or it may not be made
 abbrev pub StopsReading : {S : Type 0} → SourceGhosts S → S → S → Inbox → Inbox → Stopped → Type 0

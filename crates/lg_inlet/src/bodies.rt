@@ -20,8 +20,13 @@ impl Inbox {
         ensures later { S.faults source.old ≤ S.faults source.new }
     {
         'taking: while self.unread().len() < needed {
-            if self.read_more(source)? == 0 {
-                return Ok(BodyEnd::Cut);
+            match self.read_more(source) {
+                Ok(count) => {
+                    if count == 0 {
+                        return Ok(BodyEnd::Cut);
+                    }
+                }
+                Err(stopped) => return Err(stopped),
             }
         }
         Ok(BodyEnd::Whole)

@@ -2,7 +2,7 @@
 
 ghost use Rattle.std.specs.Prelude.{◌≡◌, ◌≢◌, ◌≤◌, ℕ, List, length, Option, IfOk, IfErr};
 ghost use Rattle.lg_base.specs.Told.{IsAtEnd};
-ghost use Rattle.lg_heads.specs.Scanning.{place_of, HasCounted, HasStopped};
+ghost use Rattle.lg_heads.specs.Scanning.{place_of, HasCounted, HasNoHead, HasStopped};
 ghost use Rattle.lg_inlet.specs.Finding.{IsFound, IsLook};
 
 use crate::found::Found;
@@ -27,8 +27,9 @@ impl Inbox {
         let mut scan = HeadScan::new();
         let mut next_look = 0;
         'finding: loop {
-            let seen = scan.advance(self.unread());
-            match look(self.unread(), &scan, seen, &mut next_look) {
+            let bytes = self.unread();
+            let seen = scan.advance(bytes);
+            match look(bytes, &scan, seen, &mut next_look) {
                 Verdict::Whole(head) => return Ok(Found::Whole(head)),
                 Verdict::Bad => return Ok(Found::Bad),
                 Verdict::Long => return Ok(Found::Long),
@@ -37,8 +38,13 @@ impl Inbox {
             let Seen::All = seen else {
                 continue 'finding;
             };
-            if self.read_more(source)? == 0 {
-                return Ok(found_at_end(self.unread(), &scan));
+            match self.read_more(source) {
+                Ok(count) => {
+                    if count == 0 {
+                        return Ok(found_at_end(self.unread(), &scan));
+                    }
+                }
+                Err(stopped) => return Err(stopped),
             }
         }
     }
@@ -65,6 +71,7 @@ fn look(bytes: &[u8], scan: &HeadScan, seen: Seen, next_look: &mut usize) -> Ver
 fn found_at_end(bytes: &[u8], scan: &HeadScan) -> Found
     requires counted { HasCounted scan.now bytes.now }
     requires all { place_of scan.now ≡ length bytes.now }
+    requires none { HasNoHead scan.now bytes.now }
     ensures { (left : Option (List ℕ)) → IsAtEnd left → IsFound left bytes.now result }
 {
     match judge(bytes, scan, Seen::All) {

@@ -2,8 +2,9 @@
 
 ghost use Rattle.std.specs.Prelude.{◌≡◌, ◌<◌, ◌≤◌, length, drop, Some, IfOk, IfErr, []};
 
+use crate::reading::append_read;
 use crate::stopped::Stopped;
-use lg_base::{Failed, NoMemory, Source};
+use lg_base::{NoMemory, Source};
 use std::alloc::Global;
 
 /// How many bytes a read asks for at most.
@@ -25,7 +26,7 @@ pub struct Inbox {
 
 impl Inbox {
     ghost use Rattle.lg_inlet.specs.Unread.{unread, allowance_of};
-    ghost use Rattle.lg_inlet.specs.Taking.{TakesMore, StopsReading};
+    ghost use Rattle.lg_inlet.specs.Taking.{TakesOnce, StopsReading};
 
     /// An inbox that holds nothing and may take so many bytes.
     pub fn new(alloc: Global, allowance: u64) -> Result<Inbox, NoMemory>
@@ -76,30 +77,21 @@ impl Inbox {
 
     /// Reads once, and puts what came behind the unread bytes. Answers how many bytes that were.
     pub(crate) fn read_more<S: Source>(&mut self, source: &mut S) -> Result<usize, Stopped>
-        ensures took { IfOk result (TakesMore S.Source source.old source.new self.old self.new) }
+        ensures took { IfOk result (TakesOnce S.Source source.old source.new self.old self.new) }
         ensures stopped { IfErr result (StopsReading S.Source source.old source.new self.old self.new) }
         ensures later { S.faults source.old ≤ S.faults source.new }
     {
-        let most = self.next_size();
-        if most == 0 {
+        if self.allowance == 0 {
             return Err(Stopped::Spent);
         }
-        match source.read(&mut self.chunk[..most]) {
+        let most = self.allowance.min(CHUNK as u64) as usize;
+        self.chunk.truncate(most);
+        match append_read(source, self.chunk.as_mut_slice(), &mut self.bytes) {
             Ok(count) => {
-                self.bytes.extend_from_slice(&self.chunk[..count])?;
                 self.allowance -= count as u64;
                 Ok(count)
             }
-            Err(Failed) => Err(Stopped::Fault),
+            Err(stopped) => Err(stopped),
         }
-    }
-
-    /// How many bytes the next read may ask for.
-    fn next_size(&self) -> usize
-        ensures fits { result ≤ length self.now.chunk.items }
-        ensures allowed { result ≤ allowance_of self.now }
-        ensures some { result ≡ 0 → allowance_of self.now ≡ 0 }
-    {
-        self.allowance.min(self.chunk.len() as u64) as usize
     }
 }

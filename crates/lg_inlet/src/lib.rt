@@ -7,6 +7,7 @@ mod finding;
 mod found;
 mod inbox;
 mod passing;
+mod reading;
 mod stopped;
 
 pub use body_end::BodyEnd;

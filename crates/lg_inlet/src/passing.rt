@@ -27,8 +27,13 @@ impl Inbox {
             if wanted == 0 {
                 return Ok(BodyEnd::Whole);
             }
-            if self.read_more(source)? == 0 {
-                return Ok(BodyEnd::Cut);
+            match self.read_more(source) {
+                Ok(count) => {
+                    if count == 0 {
+                        return Ok(BodyEnd::Cut);
+                    }
+                }
+                Err(stopped) => return Err(stopped),
             }
         }
     }

@@ -2,7 +2,7 @@ use Rattle.std.proofs.Common.{◌≤◌}
 use Rattle.lg_inlet.specs.Bodies.{IsShort}
 use Rattle.lg_inlet.specs.Taking.{TakesWanted}
 use Rattle.lg_inlet.specs.Unread.{allowance_of}
-use Rattle.lg_inlet.proofs.bodies.Inbox.take_body.Given as goal
+use Rattle.lg_inlet.proofs.inbox.Inbox.take_body.Given as goal
 
 abbrev pub invariant-taking : goal.invariant-taking
 invariant-taking g l = record {

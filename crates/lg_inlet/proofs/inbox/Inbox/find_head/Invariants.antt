@@ -3,7 +3,7 @@ use Rattle.lg_heads.specs.Scanning.{HasCounted, HasNoHead}
 use Rattle.lg_heads.specs.Verdicts.{WantsMore}
 use Rattle.lg_inlet.specs.Taking.{TakesWanted}
 use Rattle.lg_inlet.specs.Unread.{unread, allowance_of}
-use Rattle.lg_inlet.proofs.finding.Inbox.find_head.Given as goal
+use Rattle.lg_inlet.proofs.inbox.Inbox.find_head.Given as goal
 
 abbrev pub invariant-finding : goal.invariant-finding
 invariant-finding g l = record {
