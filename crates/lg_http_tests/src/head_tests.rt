@@ -201,3 +201,14 @@ fn a_fault_at_each_read(rt: HostRuntime) -> Result<(), Fail> {
     }
     Ok(())
 }
+
+#[test]
+fn no_read_behind_a_whole_head(rt: HostRuntime) -> Result<(), Fail> {
+    let text = "GET / HTTP/1.1\r\n\r\n";
+    let fails = vec![in rt.alloc(); 19u64]?;
+    let mut source = MemSource::new(text.as_bytes().to_vec(rt.alloc())?, fails, 1);
+    let mut inbox = Inbox::new(rt.alloc(), ALLOWANCE)?;
+    assert!(rt; matches!(inbox.find_head(&mut source)?, Found::Whole(_)));
+    assert!(rt; matches!(inbox.find_head(&mut source)?, Found::Whole(_)));
+    Ok(())
+}

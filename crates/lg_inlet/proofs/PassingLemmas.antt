@@ -14,7 +14,8 @@ use Rattle.lg_inlet.specs.Unread.{unread, allowance_of}
 use Rattle.lg_inlet.specs.declared.inbox.Inbox.{Inbox}
 use Rattle.lg_inlet.proofs.TakingLemmas.{given_none, given_more}
 
-empty_of : (l : List ℕ) → length l ≡ 0 → l ≡ []
+-- a list of no elements
+pub empty_of : (l : List ℕ) → length l ≡ 0 → l ≡ []
 empty_of [] e = refl
 empty_of (x ∷ l) e = absurd (omega arith)
 

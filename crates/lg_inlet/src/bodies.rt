@@ -13,7 +13,11 @@ impl Inbox {
     ghost use Rattle.lg_inlet.specs.Bodies.{IsShort, HasBody};
 
     /// Reads until so many bytes are unread, or the source ends. The memory follows what came, whatever is needed.
-    pub fn take_body<S: Source>(&mut self, source: &mut S, needed: usize) -> Result<BodyEnd, Stopped>
+    pub fn take_body<S: Source>(
+        &mut self,
+        source: &mut S,
+        needed: usize,
+    ) -> Result<BodyEnd, Stopped>
         ensures took { IfOk result (λ _. TakesWanted (IsShort needed) S.Source source.old source.new self.old self.new) }
         ensures body { IfOk result (HasBody (S.left source.new) (unread self.new) needed) }
         ensures stopped { IfErr result (StopsTaking (IsShort needed) S.Source source.old source.new self.old self.new) }

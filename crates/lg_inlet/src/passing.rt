@@ -11,7 +11,12 @@ impl Inbox {
     ghost use Rattle.lg_inlet.specs.Bodies.{PassesBody};
 
     /// Passes the next so many bytes to a feed as they come, and keeps none of them.
-    pub fn pass_body<S: Source, F: Feed>(&mut self, source: &mut S, size: u64, to: &mut F) -> Result<BodyEnd, Stopped>
+    pub fn pass_body<S: Source, F: Feed>(
+        &mut self,
+        source: &mut S,
+        size: u64,
+        to: &mut F,
+    ) -> Result<BodyEnd, Stopped>
         ensures passes { PassesBody S.Source F.Feed source.old source.new to.old to.new self.old self.new size result }
         ensures later { S.faults source.old ≤ S.faults source.new }
     {

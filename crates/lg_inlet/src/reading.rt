@@ -8,7 +8,11 @@ use crate::stopped::Stopped;
 use lg_base::{Failed, Source};
 
 /// Reads once into the chunk, and puts what came behind the bytes.
-pub(crate) fn append_read<S: Source>(source: &mut S, chunk: &mut [u8], bytes: &mut Vec<u8>) -> Result<usize, Stopped>
+pub(crate) fn append_read<S: Source>(
+    source: &mut S,
+    chunk: &mut [u8],
+    bytes: &mut Vec<u8>,
+) -> Result<usize, Stopped>
     requires { 0 < length chunk.old }
     ensures took { IfOk result (TakesMore S.Source source.old source.new bytes.old.items bytes.new.items) }
     ensures bound { IfOk result (λ n. n ≤ length chunk.old) }

@@ -19,13 +19,13 @@ pub returns-in-Err-clause-stopped : goal.returns-in-Err-clause-stopped
 returns-in-Err-clause-stopped g c =
     let scanned = scanned_all c.advance-seen.new.self (unread c.finding.self) c.unread-bytes.result.now c.advance-seen.result c.unread-bytes.ensures c.advance-seen.ensures.counted c.advance-seen.ensures.stopped c.in-All.is in
     stops_wanting g.S.Source WantsMore c.args.source.now c.finding.source c.read_more.new.source c.args.self.now c.finding.self c.read_more.new.self c.in-Err.stopped c.finding.invariant.taken
-        (wants_scanned c.advance-seen.new.self (unread c.finding.self) scanned) c.finding.invariant.later c.in-Err.ensures.stopped
+    (wants_scanned c.advance-seen.new.self (unread c.finding.self) scanned) c.finding.invariant.later c.in-Err.ensures.stopped
 
 pub returns-then-count-eq0-clause-took : goal.returns-then-count-eq0-clause-took
 returns-then-count-eq0-clause-took g c =
     let scanned = scanned_all c.advance-seen.new.self (unread c.finding.self) c.unread-bytes.result.now c.advance-seen.result c.unread-bytes.ensures c.advance-seen.ensures.counted c.advance-seen.ensures.stopped c.in-All.is in
     wanted_more g.S.Source WantsMore c.args.source.now c.finding.source c.read_more.new.source c.args.self.now c.finding.self c.read_more.new.self c.in-Ok.count c.finding.invariant.taken
-        (wants_scanned c.advance-seen.new.self (unread c.finding.self) scanned) c.in-Ok.ensures.took
+    (wants_scanned c.advance-seen.new.self (unread c.finding.self) scanned) c.in-Ok.ensures.took
 
 pub returns-then-count-eq0-clause-found : goal.returns-then-count-eq0-clause-found
 returns-then-count-eq0-clause-found g c =
