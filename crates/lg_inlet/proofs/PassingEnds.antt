@@ -1,14 +1,14 @@
 -- How a turn of passing a body on goes, and how it ends.
-use Rattle.std.proofs.Common.{◌≡◌, ℕ, ◌+◌, ◌-◌, ◌<◌, ◌≤◌, min, List, [], ◌∷◌, ◌++◌, length, take, drop, refl, sym, ap, ◌∙◌, subst, arith, length-append}
+use Rattle.std.proofs.Common.{◌≡◌, ℕ, ◌-◌, ◌<◌, ◌≤◌, min, List, [], ◌++◌, length, take, drop, ap, ◌∙◌, subst, arith, length-append}
 use Rattle.std.specs.Prelude.{Result, Ok, Err, IsErr}
 use Rattle.std.proofs.lemmas.List.{length-take-le, length-drop}
-use Rattle.lg_base.specs.Growth.{Rose, Gives}
+use Rattle.lg_base.specs.Growth.{Gives}
 use Rattle.lg_base.specs.Told.{given}
 use Rattle.lg_base.specs.declared.feed.Feed.{Ghosts as FeedGhosts}
 use Rattle.lg_base.specs.declared.feed.Stop.{Stop}
 use Rattle.lg_base.specs.declared.source.Source.{Ghosts as SourceGhosts}
 use Rattle.lg_base.proofs.Feeds.{then}
-use Rattle.lg_inlet.specs.Bodies.{Passes, PassesPart, PassesBody}
+use Rattle.lg_inlet.specs.Bodies.{PassesPart, PassesBody}
 use Rattle.lg_inlet.specs.Taking.{TakesOnce, StopsReading}
 use Rattle.lg_inlet.specs.Unread.{unread, allowance_of}
 use Rattle.lg_inlet.specs.declared.body_end.BodyEnd.TheVariants.{Whole, Cut}

@@ -1,13 +1,13 @@
 -- One turn of passing a body on.
-use Rattle.std.proofs.Common.{◌≡◌, ℕ, ◌+◌, ◌-◌, ◌<◌, ◌≤◌, ◌⊎◌, min, List, [], ◌∷◌, ◌++◌, length, take, drop, Option, inl, inr, refl, sym, ap, ◌∙◌, subst, arith, append_assoc, append-nil, length-append}
+use Rattle.std.proofs.Common.{◌≡◌, ℕ, ◌+◌, ◌-◌, ◌<◌, ◌≤◌, min, List, [], ◌∷◌, ◌++◌, length, take, drop, inl, inr, refl, sym, ap, ◌∙◌, subst, arith, append_assoc, append-nil, length-append}
 use Rattle.std.specs.Prelude.{true, false, Result, Ok, Err, IsErr}
 use Rattle.std.proofs.lemmas.List.{take-append-drop, length-take-le, length-drop}
-use Rattle.lg_base.specs.Growth.{Rose, Gives}
-use Rattle.lg_base.specs.Told.{given, IsAtEnd}
+use Rattle.lg_base.specs.Growth.{Gives}
+use Rattle.lg_base.specs.Told.{given}
 use Rattle.lg_base.specs.declared.feed.Feed.{Ghosts as FeedGhosts}
 use Rattle.lg_base.specs.declared.feed.Stop.{Stop}
 use Rattle.lg_base.specs.declared.source.Source.{Ghosts as SourceGhosts}
-use Rattle.lg_base.proofs.Feeds.{then, nothing}
+use Rattle.lg_base.proofs.Feeds.{nothing}
 use Rattle.lg_inlet.specs.Bodies.{IsShort, Passes, PassesPart}
 use Rattle.lg_inlet.specs.Taking.{Takes, TakesOnce}
 use Rattle.lg_inlet.specs.Unread.{unread, allowance_of}

@@ -1,15 +1,14 @@
 -- How calls that take bytes from a source compose.
-use Rattle.std.proofs.Common.{◌≡◌, ℕ, ◌+◌, ◌-◌, ◌^◌, ◌<◌, ◌≤◌, ◌⊎◌, min, List, [], ◌∷◌, ◌++◌, length, drop, Option, Some, None, inl, inr, refl, sym, ap, ◌∙◌, subst, arith, append_assoc, append-nil, length-append}
+use Rattle.std.proofs.Common.{◌≡◌, ℕ, ◌+◌, ◌≤◌, List, [], ◌++◌, length, drop, Option, Some, None, inl, inr, refl, sym, ap, ◌∙◌, subst, arith, append_assoc, append-nil, length-append}
 use Rattle.std.proofs.lemmas.List.{drop-append-le}
-use Rattle.lg_base.specs.Growth.{Rose}
-use Rattle.lg_base.specs.Told.{given, IsAtEnd}
+use Rattle.lg_base.specs.Told.{given}
 use Rattle.lg_base.specs.declared.source.Source.{Ghosts as SourceGhosts}
 use Rattle.lg_inlet.specs.declared.inbox.Inbox.{Inbox}
 use Rattle.lg_inlet.specs.declared.stopped.Stopped.{Stopped}
 use Rattle.lg_inlet.specs.declared.stopped.Stopped.TheVariants.{Fault, Spent, NoMemory, Full}
 use Rattle.lg_base.specs.Reading.{TakesMore}
-use Rattle.lg_inlet.specs.Reading.{Fails, StopsAppending}
-use Rattle.lg_inlet.specs.Taking.{Takes, IsWanted, TakesWanted, TakesOnce, StopsReading, TakesTooFew, StopsTaking}
+use Rattle.lg_inlet.specs.Reading.{StopsAppending}
+use Rattle.lg_inlet.specs.Taking.{Takes, TakesWanted, TakesOnce, StopsReading, TakesTooFew, StopsTaking}
 use Rattle.lg_inlet.specs.Unread.{unread, allowance_of}
 
 pub given_none : (left : Option (List ℕ)) → left ≡ given [] left

@@ -1,10 +1,10 @@
-use Rattle.std.proofs.Common.{◌≡◌, ℕ, ◌+◌, ◌-◌, ◌*◌, ◌<◌, ◌≤◌, List, ◌++◌, length, sym, ap, subst, arith, length-append}
+use Rattle.std.proofs.Common.{ℕ, List, sym, subst, arith}
 use Rattle.lg_heads.specs.Scanning.{HasCounted, HasNoHead}
 use Rattle.lg_heads.specs.Verdicts.{WantsMore}
 use Rattle.lg_inlet.specs.Finding.{IsFound}
 use Rattle.lg_inlet.specs.Unread.{unread}
 use Rattle.lg_inlet.proofs.TakingLemmas.{starts_wanted, wanted_more, stops_wanting}
-use Rattle.lg_inlet.proofs.FindingLemmas.{scanned_all, wants_scanned, scanned_same, counted_append, no_head_append}
+use Rattle.lg_inlet.proofs.FindingLemmas.{scanned_all, wants_scanned, counted_append, no_head_append}
 use Rattle.lg_inlet.proofs.inbox.Inbox.find_head.Goals as goal
 
 pub finding-init : goal.finding-init

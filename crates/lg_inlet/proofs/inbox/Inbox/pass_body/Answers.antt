@@ -1,4 +1,4 @@
-use Rattle.std.proofs.Common.{◌≡◌, ℕ, ◌-◌, ◌<◌, ◌≤◌, sym, ◌∙◌, arith}
+use Rattle.std.proofs.Common.{◌-◌, ◌<◌, sym, ◌∙◌, arith}
 use Rattle.std.proofs.lemmas.Bool.{false≢true}
 use Rattle.lg_inlet.proofs.PassingLemmas.{passed_none}
 use Rattle.lg_inlet.proofs.PassingEnds.{turn_of, turned, turned_none, ends_full, ends_whole, read_on, ends_cut, ends_reading}

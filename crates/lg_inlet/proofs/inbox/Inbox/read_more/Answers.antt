@@ -1,4 +1,4 @@
-use Rattle.std.proofs.Common.{◌≡◌, ◌+◌, ◌-◌, ◌≤◌, refl, arith}
+use Rattle.std.proofs.Common.{refl, arith}
 use Rattle.lg_inlet.proofs.TakingLemmas.{takes_none, took_of, stops_of}
 use Rattle.lg_inlet.proofs.inbox.Inbox.read_more.Goals as goal
 

@@ -1,4 +1,4 @@
-use Rattle.std.proofs.Common.{◌≡◌, ℕ, ◌+◌, ◌<◌, ◌≤◌, List, length, ap, arith, length-append}
+use Rattle.std.proofs.Common.{◌<◌, length, ap, arith, length-append}
 use Rattle.lg_inlet.specs.Bodies.{IsShort}
 use Rattle.lg_inlet.specs.Unread.{unread}
 use Rattle.lg_inlet.proofs.TakingLemmas.{starts_wanted, wanted_more, stops_wanting}
