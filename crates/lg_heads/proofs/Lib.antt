@@ -1,0 +1,5 @@
+pub mod FieldLemmas
+pub mod HeadLines
+pub mod Prefixes
+pub mod ScanLemmas
+pub mod VerdictLemmas

@@ -1,0 +1,4 @@
+pub mod FindingLemmas
+pub mod PassingEnds
+pub mod PassingLemmas
+pub mod TakingLemmas
