@@ -4,7 +4,7 @@ use crate::asked_book::told_by_book;
 use crate::asked_shards::{is_of_shards, told_by_shards};
 use crate::words::number_of;
 use lg_codec::status_of;
-use lg_request_tests::{body_text, call_of, keyed, midnight};
+use lg_request_tests::{Request, body_text, call_of, midnight};
 use lg_store::Solo;
 use lg_types::LedgerName;
 use lg_views::Answer;
@@ -14,9 +14,9 @@ use std::test::Fail;
 
 /// Asserts what is answered to the lines of a scenario, one after the other. A line is what is asked, ` = `, and the
 /// answer. What is asked is
-/// - a request: `POST`, the day of January 2024 at whose midnight it comes, its target, its key or `-`, and its body,
-///   where it has one; the answer is the number of events before it, the number of events that it added, `hit` for a
-///   repeated reply, the status and the body;
+/// - a request: its method, the day of January 2024 at whose midnight it comes, its target, its key or `-`, and its
+///   body, where it has one; the answer is the number of events before it, the number of events that it added, `hit`
+///   for a repeated reply, the status and the body;
 /// - or a ledger, and what the shards or the book are asked about it.
 pub fn check(rt: &impl Abort, alloc: Global, text: &str) -> Result<(), Fail> {
     let mut solo = Solo::new(alloc)?;
@@ -33,30 +33,25 @@ fn check_line(rt: &impl Abort, alloc: Global, solo: &mut Solo, line: &str) -> Re
     Ok(())
 }
 
-fn told_line(alloc: Global, solo: &mut Solo, asked: &str) -> Result<String, Fail> {
-    let words: Vec<&str> = asked.split_whitespace().collect(alloc)?;
-    match words.as_slice() {
-        [ledger, kind, rest @ ..] => {
-            if *ledger == "POST" {
-                told_request(alloc, solo, kind, rest)
-            } else {
-                told_about(alloc, solo, ledger, kind, rest)
-            }
-        }
-        _ => Err("too few words".into()),
+fn is_method(word: &str) -> bool {
+    match word.as_bytes() {
+        b"POST" => true,
+        b"DELETE" => true,
+        _ => false,
     }
 }
 
-fn told_request(
-    alloc: Global,
-    solo: &mut Solo,
-    day: &str,
-    words: &[&str],
-) -> Result<String, Fail> {
-    match *words {
-        [target, key] => answered(alloc, solo, day, target, key, ""),
-        [target, key, body] => answered(alloc, solo, day, target, key, body),
-        _ => Err("no request".into()),
+fn told_line(alloc: Global, solo: &mut Solo, asked: &str) -> Result<String, Fail> {
+    let words: Vec<&str> = asked.split_whitespace().collect(alloc)?;
+    match words.as_slice() {
+        [first, second, rest @ ..] => {
+            if is_method(first) {
+                told_request(alloc, solo, first, second, rest)
+            } else {
+                told_about(alloc, solo, first, second, rest)
+            }
+        }
+        _ => Err("too few words".into()),
     }
 }
 
@@ -67,18 +62,41 @@ fn day_of(word: &str) -> Result<u8, Fail> {
     }
 }
 
-fn answered(
+fn told_request(
     alloc: Global,
     solo: &mut Solo,
+    method: &str,
     day: &str,
-    target: &str,
-    key: &str,
-    body: &str,
+    words: &[&str],
 ) -> Result<String, Fail> {
     let day = day_of(day)?;
+    match *words {
+        [target, key] => answered(alloc, solo, &request_of(day, method, target, key, "")),
+        [target, key, body] => answered(alloc, solo, &request_of(day, method, target, key, body)),
+        _ => Err("no request".into()),
+    }
+}
+
+fn request_of<'a>(
+    day: u8,
+    method: &'a str,
+    target: &'a str,
+    key: &'a str,
+    body: &'a str,
+) -> Request<'a> {
     let key = if key == "-" { "" } else { key };
-    let call = call_of(alloc, &keyed(day, target, key, body))?;
-    told_answer(alloc, &solo.call(&call, midnight(day)))
+    Request {
+        day,
+        method,
+        target,
+        key,
+        body,
+    }
+}
+
+fn answered(alloc: Global, solo: &mut Solo, request: &Request<'_>) -> Result<String, Fail> {
+    let call = call_of(alloc, request)?;
+    told_answer(alloc, &solo.call(&call, midnight(request.day)))
 }
 
 /// An answer in short.

@@ -20,6 +20,7 @@ fn is_just(set: StripeSet, stripes: &[u8]) -> bool {
 
 /// A call, by the members of its line; the postings of the transaction of id 1 in JSON, where that is known; and the
 /// stripes that the call needs.
+#[derive(Drop)]
 struct Row {
     members: &'static str,
     known: Option<&'static str>,

@@ -4,7 +4,6 @@ ghost use Rattle.std.specs.Prelude.{◌≡◌, IfOk};
 ghost use Rattle.lg_base.specs.Volumes.{IsWithinLimit};
 
 use crate::lines::postings_of;
-use lg_base::LIMIT;
 use lg_sheet::{Balances, Sheet, SheetStop};
 use lg_types::{Address, Amount, Asset, Postings, Volumes};
 use std::alloc::Global;
@@ -36,6 +35,9 @@ impl Balances for Lent {
         }
     }
 }
+
+/// The greatest input or output of an account.
+const MOST: u128 = 170141183460469231731687303715884105727;
 
 /// Volumes of an account and an asset.
 #[derive(Clone, Copy)]
@@ -131,6 +133,7 @@ enum Trial {
 }
 
 /// A trial of a list of postings in JSON, and what it comes to.
+#[derive(Drop)]
 struct Row {
     held: Held,
     trial: Trial,
@@ -160,7 +163,7 @@ fn check(rt: &impl Abort, alloc: Global, rows: &[Row]) -> Result<(), Fail> {
     Ok(())
 }
 
-const fn held(account: &'static str, asset: &'static str, input: u128, output: u128) -> Held {
+const fn holds(account: &'static str, asset: &'static str, input: u128, output: u128) -> Held {
     Held {
         account,
         asset,
@@ -176,25 +179,25 @@ fn a_source_needs_its_funds(rt: HostRuntime) -> Result<(), Fail> {
         rt.alloc(),
         &[
             Row {
-                held: held("users:1", "USD/2", 100, 0),
+                held: holds("users:1", "USD/2", 100, 0),
                 trial: Trial::Plain,
                 postings: r#"[{"source":"users:1","destination":"users:2","amount":101,"asset":"USD/2"}]"#,
                 told: "posting 0 lacks, has 100",
             },
             Row {
-                held: held("users:1", "USD/2", 100, 0),
+                held: holds("users:1", "USD/2", 100, 0),
                 trial: Trial::Forced,
                 postings: r#"[{"source":"users:1","destination":"users:2","amount":101,"asset":"USD/2"}]"#,
                 told: "accepted",
             },
             Row {
-                held: held("users:1", "USD/2", 100, 0),
+                held: holds("users:1", "USD/2", 100, 0),
                 trial: Trial::Plain,
                 postings: r#"[{"source":"users:1","destination":"users:2","amount":100,"asset":"USD/2"}]"#,
                 told: "accepted",
             },
             Row {
-                held: held("users:1", "USD/2", 100, 0),
+                held: holds("users:1", "USD/2", 100, 0),
                 trial: Trial::Plain,
                 postings: r#"[{"source":"users:1","destination":"users:2","amount":1,"asset":"EUR"}]"#,
                 told: "posting 0 lacks, has 0",
@@ -210,19 +213,19 @@ fn later_postings_see_earlier_ones(rt: HostRuntime) -> Result<(), Fail> {
         rt.alloc(),
         &[
             Row {
-                held: held("c", "EUR", 0, 0),
+                held: holds("c", "EUR", 0, 0),
                 trial: Trial::Plain,
                 postings: r#"[{"source":"world","destination":"a","amount":50,"asset":"EUR"},{"source":"a","destination":"b","amount":50,"asset":"EUR"}]"#,
                 told: "accepted",
             },
             Row {
-                held: held("c", "EUR", 0, 0),
+                held: holds("c", "EUR", 0, 0),
                 trial: Trial::Plain,
                 postings: r#"[{"source":"a","destination":"b","amount":50,"asset":"EUR"},{"source":"world","destination":"a","amount":50,"asset":"EUR"}]"#,
                 told: "posting 0 lacks, has 0",
             },
             Row {
-                held: held("c", "EUR", 0, 0),
+                held: holds("c", "EUR", 0, 0),
                 trial: Trial::Plain,
                 postings: r#"[{"source":"a","destination":"b","amount":0,"asset":"EUR"}]"#,
                 told: "accepted",
@@ -238,25 +241,25 @@ fn volumes_stay_within_the_limit(rt: HostRuntime) -> Result<(), Fail> {
         rt.alloc(),
         &[
             Row {
-                held: held("c", "X", 0, 0),
+                held: holds("c", "X", 0, 0),
                 trial: Trial::Plain,
                 postings: r#"[{"source":"world","destination":"a","amount":170141183460469231731687303715884105727,"asset":"X"}]"#,
                 told: "accepted",
             },
             Row {
-                held: held("world", "X", 0, LIMIT),
+                held: holds("world", "X", 0, MOST),
                 trial: Trial::Plain,
                 postings: r#"[{"source":"world","destination":"a","amount":1,"asset":"X"}]"#,
                 told: "posting 0 is over",
             },
             Row {
-                held: held("world", "X", 0, LIMIT),
+                held: holds("world", "X", 0, MOST),
                 trial: Trial::Forced,
                 postings: r#"[{"source":"world","destination":"a","amount":1,"asset":"X"}]"#,
                 told: "posting 0 is over",
             },
             Row {
-                held: held("c", "X", 0, 0),
+                held: holds("c", "X", 0, 0),
                 trial: Trial::After(
                     r#"[{"source":"world","destination":"a","amount":170141183460469231731687303715884105727,"asset":"X"}]"#,
                 ),
@@ -274,19 +277,19 @@ fn a_revert_may_leave_nobody_below_zero(rt: HostRuntime) -> Result<(), Fail> {
         rt.alloc(),
         &[
             Row {
-                held: held("a", "EUR", 10, 8),
+                held: holds("a", "EUR", 10, 8),
                 trial: Trial::Revert,
                 postings: r#"[{"source":"world","destination":"a","amount":10,"asset":"EUR"}]"#,
                 told: "below: -8",
             },
             Row {
-                held: held("a", "EUR", 10, 8),
+                held: holds("a", "EUR", 10, 8),
                 trial: Trial::ForcedRevert,
                 postings: r#"[{"source":"world","destination":"a","amount":10,"asset":"EUR"}]"#,
                 told: "accepted",
             },
             Row {
-                held: held("a", "EUR", 10, 8),
+                held: holds("a", "EUR", 10, 8),
                 trial: Trial::Revert,
                 postings: r#"[{"source":"a","destination":"b","amount":8,"asset":"EUR"}]"#,
                 told: "below: -8",
@@ -302,7 +305,7 @@ fn the_sheet_keeps_what_it_accepted(rt: HostRuntime) -> Result<(), Fail> {
         rt.alloc(),
         &[
             Row {
-                held: held("c", "EUR", 0, 0),
+                held: holds("c", "EUR", 0, 0),
                 trial: Trial::After(
                     r#"[{"source":"world","destination":"a","amount":10,"asset":"EUR"}]"#,
                 ),
@@ -310,7 +313,7 @@ fn the_sheet_keeps_what_it_accepted(rt: HostRuntime) -> Result<(), Fail> {
                 told: "accepted",
             },
             Row {
-                held: held("c", "EUR", 0, 0),
+                held: holds("c", "EUR", 0, 0),
                 trial: Trial::After(
                     r#"[{"source":"world","destination":"a","amount":10,"asset":"EUR"}]"#,
                 ),

@@ -19,6 +19,7 @@ enum Map {
 }
 
 /// A map, an account, and its input and output in EUR there.
+#[derive(Drop)]
 struct Row {
     map: Map,
     account: &'static str,

@@ -45,6 +45,7 @@ fn told(alloc: Global, decided: &Decided) -> Result<String, Fail> {
 
 /// A write, by the members of its line; whether transaction 1 is found for it; the transaction that has its reference;
 /// whether its postings pass the limit; and what is decided of it at the date 7.
+#[derive(Drop)]
 struct Row {
     members: &'static str,
     is_found: bool,
