@@ -6,7 +6,7 @@ use crate::words::number_of;
 use lg_codec::status_of;
 use lg_request_tests::{Request, body_text, call_of, midnight};
 use lg_store::Solo;
-use lg_types::LedgerName;
+use lg_types::{Call, LedgerName};
 use lg_views::Answer;
 use std::alloc::Global;
 use std::process::Abort;
@@ -96,7 +96,12 @@ fn request_of<'a>(
 
 fn answered(alloc: Global, solo: &mut Solo, request: &Request<'_>) -> Result<String, Fail> {
     let call = call_of(alloc, request)?;
-    told_answer(alloc, &solo.call(&call, midnight(request.day)))
+    answer_of(alloc, solo, &call, request.day)
+}
+
+fn answer_of(alloc: Global, solo: &mut Solo, call: &Call, day: u8) -> Result<String, Fail> {
+    let answer = solo.call(call, midnight(day));
+    told_answer(alloc, &answer)
 }
 
 /// An answer in short.

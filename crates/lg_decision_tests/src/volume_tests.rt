@@ -66,15 +66,25 @@ fn replied(alloc: Global, members: &str) -> Result<Reply, Fail> {
     reply_to(alloc, &line_at(&script, 0)?.call)
 }
 
-/// Asserts what the last transaction of a call is shown with.
-fn check(rt: &impl Abort, alloc: Global, members: &str, rows: &[Row]) -> Result<(), Fail> {
-    let reply = replied(alloc, members)?;
-    let view = last_view(&reply).ok_or("no transaction")?;
+fn check_view(rt: &impl Abort, view: &TransactionView, rows: &[Row]) -> Result<(), Fail> {
     for (place, row) in rows.iter().enumerate() {
         let volumes = shown(view, row.map, row.account);
         assert_eq!(rt; volumes, row.volumes, "row {place}");
     }
     Ok(())
+}
+
+fn check_reply(rt: &impl Abort, reply: &Reply, rows: &[Row]) -> Result<(), Fail> {
+    match last_view(reply) {
+        Some(view) => check_view(rt, view, rows),
+        None => Err("no transaction".into()),
+    }
+}
+
+/// Asserts what the last transaction of a call is shown with.
+fn check(rt: &impl Abort, alloc: Global, members: &str, rows: &[Row]) -> Result<(), Fail> {
+    let reply = replied(alloc, members)?;
+    check_reply(rt, &reply, rows)
 }
 
 #[test]

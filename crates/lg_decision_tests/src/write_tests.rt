@@ -2,7 +2,7 @@
 
 use crate::lines::{line_at, request_of, transaction_of, write_of};
 use lg_decide::{Decided, Looked, decide_write, new_entry};
-use lg_types::{EntryBody, Refusal, Transaction, Write};
+use lg_types::{Call, EntryBody, Refusal, Transaction, Write};
 use std::alloc::Global;
 use std::process::Abort;
 use std::test::Fail;
@@ -81,11 +81,24 @@ fn decided(
     Ok(decide_write(alloc, &7, write, &looked, trial_of(row.is_over))?)
 }
 
+fn told_write(
+    alloc: Global,
+    write: &Write,
+    original: &Transaction,
+    row: &Row,
+) -> Result<String, Fail> {
+    let decided = decided(alloc, write, original, row)?;
+    told(alloc, &decided)
+}
+
+fn told_call(alloc: Global, call: &Call, row: &Row) -> Result<String, Fail> {
+    let original = transaction_of(alloc, ORIGINAL)?;
+    told_write(alloc, write_of(call)?, &original, row)
+}
+
 fn told_row(alloc: Global, row: &Row) -> Result<String, Fail> {
     let script = request_of(alloc, row.members)?;
-    let original = transaction_of(alloc, ORIGINAL)?;
-    let write = write_of(&line_at(&script, 0)?.call)?;
-    told(alloc, &decided(alloc, write, &original, row)?)
+    told_call(alloc, &line_at(&script, 0)?.call, row)
 }
 
 fn check(rt: &impl Abort, alloc: Global, rows: &[Row]) -> Result<(), Fail> {
@@ -185,23 +198,27 @@ fn metadata_are_taken_from_what_is_there(rt: HostRuntime) -> Result<(), Fail> {
     )
 }
 
-/// What the first entry of a log records of a deposit.
-fn first_body(alloc: Global, date: &i64) -> Result<EntryBody, Fail> {
-    let script = request_of(
-        alloc,
-        r#""method":"POST","path":"/v2/default/transactions","body":{"postings":[{"source":"world","destination":"users:1","amount":100,"asset":"USD/2"}]}"#,
-    )?;
+/// What the first entry of a log records of a write.
+fn body_of(alloc: Global, date: &i64, write: &Write) -> Result<EntryBody, Fail> {
     let nothing = Looked {
         transactions: 0,
         transaction: None,
         reverted_by: None,
         used: None,
     };
-    let write = write_of(&line_at(&script, 0)?.call)?;
     match decide_write(alloc, date, write, &nothing, None)? {
         Decided::Granted(body) => Ok(body),
         Decided::Denied(_) => Err("refused".into()),
     }
+}
+
+/// What the first entry of a log records of a deposit.
+fn first_body(alloc: Global, date: &i64) -> Result<EntryBody, Fail> {
+    let script = request_of(
+        alloc,
+        r#""method":"POST","path":"/v2/default/transactions","body":{"postings":[{"source":"world","destination":"users:1","amount":100,"asset":"USD/2"}]}"#,
+    )?;
+    body_of(alloc, date, write_of(&line_at(&script, 0)?.call)?)
 }
 
 #[test]
