@@ -1,44 +1,17 @@
 //! What the book is asked.
 
-use crate::asked_shards::{Metadata, told_hash, told_history, told_number};
-use crate::moments::{moment_of, told_moment, told_moment_or_none};
+use crate::asked_history::told_history;
+use crate::words::{
+    moment_of, number_of, told_hash, told_moment, told_moment_or_none, told_number,
+};
 use lg_base::ByteFeed;
 use lg_book::Book;
 use lg_request_tests::{body_text, canonical_text, text_of};
-use lg_types::{Entry, EntryForm, Event, LedgerName, entry_text, event_text};
+use lg_types::{
+    Entry, EntryForm, Event, LedgerInfo, LedgerName, Transaction, entry_text, event_text,
+};
 use std::alloc::Global;
 use std::test::Fail;
-
-/// What the book is asked about a ledger. Moments are texts.
-#[derive(Clone, Copy)]
-pub enum BookQuestion<'a> {
-    /// How many events there are, of all ledgers.
-    Events,
-    /// The event at a place, of all ledgers.
-    Event(u64),
-    /// The ledger's record.
-    Ledger,
-    /// How many entries there are.
-    Entries,
-    /// How many transactions there are.
-    Transactions,
-    /// The entry of an id.
-    Entry(u64),
-    /// The transaction of an id.
-    Transaction(u64),
-    /// The date of the entry of a transaction.
-    Inserted(u64),
-    /// The transaction that reverts a transaction.
-    RevertedBy(u64),
-    /// The metadata of a transaction.
-    Metadata(u64, Metadata<'a>),
-    /// The hash of the last entry, in hexadecimal.
-    Head,
-    /// The date of a new entry at a moment.
-    DateFor(&'a str),
-    /// The body of the first reply of an entry.
-    FirstReply(u64),
-}
 
 fn told_event(alloc: Global, place: u64, event: Option<&Event>) -> Result<String, Fail> {
     let Some(event) = event else {
@@ -58,20 +31,15 @@ fn told_entry(alloc: Global, entry: Option<&Entry>) -> Result<String, Fail> {
     text_of(alloc, feed.bytes())
 }
 
-fn told_ledger(alloc: Global, book: &Book, ledger: &LedgerName) -> Result<String, Fail> {
-    match book.ledger(ledger) {
+fn told_ledger(alloc: Global, ledger: Option<&LedgerInfo>) -> Result<String, Fail> {
+    match ledger {
         Some(info) => canonical_text(alloc, info),
         None => text_of(alloc, b"none"),
     }
 }
 
-fn told_transaction(
-    alloc: Global,
-    book: &Book,
-    ledger: &LedgerName,
-    id: u64,
-) -> Result<String, Fail> {
-    match book.transaction(ledger, id) {
+fn told_transaction(alloc: Global, transaction: Option<&Transaction>) -> Result<String, Fail> {
+    match transaction {
         Some(transaction) => canonical_text(alloc, transaction),
         None => text_of(alloc, b"none"),
     }
@@ -82,16 +50,6 @@ fn told_head(alloc: Global, head: Option<[u8; 32]>) -> Result<String, Fail> {
         Some(hash) => told_hash(alloc, &hash),
         None => text_of(alloc, b"none"),
     }
-}
-
-fn told_date_for(
-    alloc: Global,
-    book: &Book,
-    ledger: &LedgerName,
-    now: &str,
-) -> Result<String, Fail> {
-    let date = book.date_for(ledger, moment_of(now)?);
-    told_moment(alloc, date)
 }
 
 fn told_first_reply(
@@ -107,28 +65,60 @@ fn told_first_reply(
     body_text(alloc, &reply)
 }
 
-/// What the book answers to a question about a ledger, as a text; `none` where it knows nothing.
+/// What is asked of a ledger as a whole: its record as `ledger`, how many `entries` and `transactions` there are, and as
+/// `head` the hash of the last entry; and how many `events` there are of all ledgers.
+fn told_whole(alloc: Global, book: &Book, ledger: &LedgerName, kind: &str) -> Result<String, Fail> {
+    match kind.as_bytes() {
+        b"events" => told_number(alloc, Some(book.len())),
+        b"ledger" => told_ledger(alloc, book.ledger(ledger)),
+        b"entries" => told_number(alloc, book.log_len(ledger)),
+        b"transactions" => told_number(alloc, book.transactions(ledger)),
+        b"head" => told_head(alloc, book.head(ledger)),
+        _ => Err("no question of a ledger".into()),
+    }
+}
+
+/// What is asked by a number: the `event` of a place, of all ledgers; the `entry` and the `first-reply` of an entry; the
+/// `transaction` of an id, the date of its entry as `inserted`, and the transaction that it is `reverted-by`.
+fn told_one(
+    alloc: Global,
+    book: &Book,
+    ledger: &LedgerName,
+    kind: &str,
+    number: u64,
+) -> Result<String, Fail> {
+    match kind.as_bytes() {
+        b"event" => told_event(alloc, number, book.event(number)),
+        b"entry" => told_entry(alloc, book.entry(ledger, number)),
+        b"first-reply" => told_first_reply(alloc, book, ledger, number),
+        b"transaction" => told_transaction(alloc, book.transaction(ledger, number)),
+        b"inserted" => told_moment_or_none(alloc, book.inserted(ledger, number)),
+        b"reverted-by" => told_number(alloc, book.reverted_by(ledger, number)),
+        _ => Err("no question of a number".into()),
+    }
+}
+
+/// What the book answers to a question about a ledger, and `none` where it knows nothing. `date-for` asks for the date of
+/// a new entry at a moment, and `transaction-metadata` for the metadata of the transaction of an id.
 pub fn told_by_book(
     alloc: Global,
     book: &Book,
     ledger: &LedgerName,
-    asked: BookQuestion<'_>,
+    kind: &str,
+    words: &[&str],
 ) -> Result<String, Fail> {
-    match asked {
-        BookQuestion::Events => told_number(alloc, Some(book.len())),
-        BookQuestion::Event(place) => told_event(alloc, place, book.event(place)),
-        BookQuestion::Ledger => told_ledger(alloc, book, ledger),
-        BookQuestion::Entries => told_number(alloc, book.log_len(ledger)),
-        BookQuestion::Transactions => told_number(alloc, book.transactions(ledger)),
-        BookQuestion::Entry(id) => told_entry(alloc, book.entry(ledger, id)),
-        BookQuestion::Transaction(id) => told_transaction(alloc, book, ledger, id),
-        BookQuestion::Inserted(id) => told_moment_or_none(alloc, book.inserted(ledger, id)),
-        BookQuestion::RevertedBy(id) => told_number(alloc, book.reverted_by(ledger, id)),
-        BookQuestion::Metadata(id, asked) => {
-            told_history(alloc, book.transaction_history(ledger, id), asked)
+    match words {
+        [] => told_whole(alloc, book, ledger, kind),
+        [moment] if kind == "date-for" => {
+            told_moment(alloc, book.date_for(ledger, moment_of(moment)?))
         }
-        BookQuestion::Head => told_head(alloc, book.head(ledger)),
-        BookQuestion::DateFor(now) => told_date_for(alloc, book, ledger, now),
-        BookQuestion::FirstReply(id) => told_first_reply(alloc, book, ledger, id),
+        [number] => told_one(alloc, book, ledger, kind, number_of(number)?),
+        [id, rest @ ..] => {
+            told_history(
+                alloc,
+                book.transaction_history(ledger, number_of(id)?),
+                rest,
+            )
+        }
     }
 }

@@ -2,7 +2,7 @@
 
 ghost use Rattle.std.specs.Prelude.{◌≡◌, ◌<◌};
 
-use crate::moments::{end_of, moment_of};
+use crate::words::{end_of, moment_of, number_of};
 use lg_base::Volumes;
 use lg_moves::MoveIndex;
 use lg_request_tests::text_of;
@@ -11,37 +11,6 @@ use std::alloc::Global;
 use std::marker::Brand;
 use std::sync::ledger::{Blank, Ledger};
 use std::test::Fail;
-
-/// A span of dates, with both ends. An empty text is no end.
-#[derive(Clone, Copy)]
-pub struct Between<'a> {
-    pub from: &'a str,
-    pub to: &'a str,
-    pub by_insertion: bool,
-}
-
-/// What is asked of moves. Moments are texts.
-#[derive(Clone, Copy)]
-pub enum Moves<'a> {
-    /// How many there are.
-    Count,
-    /// The volumes of all.
-    Total,
-    /// The volumes of those that were inserted at most at the moment.
-    InsertedTo(&'a str),
-    /// The volumes of those that are effective at most at the moment.
-    EffectiveTo(&'a str),
-    /// The volumes of those whose transaction has at most the id.
-    TransactionTo(u64),
-    /// The volumes of those whose pair of effective date and transaction is at most the pair.
-    RankTo(&'a str, u64),
-    /// The volumes of those whose pair of effective date and transaction is before the pair.
-    RankBefore(&'a str, u64),
-    /// The volumes of those in the span.
-    Between(Between<'a>),
-    /// Whether there is one in the span.
-    Any(Between<'a>),
-}
 
 fn told_balance(alloc: Global, volumes: Volumes) -> Result<String, Fail> {
     if volumes.input < volumes.output {
@@ -59,58 +28,80 @@ fn told_volumes(alloc: Global, volumes: Volumes) -> Result<String, Fail> {
     Ok(format!(in alloc; "({},{},{balance})", volumes.input, volumes.output)?)
 }
 
+/// The volumes of the moves in a span, with both ends, of effective dates or of dates of insertion.
 fn volumes_between<L: Ledger>(
     index: &MoveIndex,
-    span: Between<'_>,
+    from: &str,
+    to: &str,
+    dates: &str,
     steps: &mut Steps<L>,
 ) -> Result<Volumes, Fail> {
-    let from = end_of(span.from)?;
-    let to = end_of(span.to)?;
-    Ok(index.between(from, to, span.by_insertion, steps))
+    let from = end_of(from)?;
+    let to = end_of(to)?;
+    Ok(index.between(from, to, dates == "inserted", steps))
 }
 
+/// Whether there is a move in a span, with both ends.
 fn any_between<L: Ledger>(
     index: &MoveIndex,
-    span: Between<'_>,
+    from: &str,
+    to: &str,
+    dates: &str,
     steps: &mut Steps<L>,
 ) -> Result<bool, Fail> {
-    let from = end_of(span.from)?;
-    let to = end_of(span.to)?;
-    Ok(index.any(from, to, span.by_insertion, steps))
+    let from = end_of(from)?;
+    let to = end_of(to)?;
+    Ok(index.any(from, to, dates == "inserted", steps))
 }
 
 fn told_any<L: Ledger>(
     alloc: Global,
     index: &MoveIndex,
-    span: Between<'_>,
+    from: &str,
+    to: &str,
+    dates: &str,
     steps: &mut Steps<L>,
 ) -> Result<String, Fail> {
-    let any = any_between(index, span, steps)?;
+    let any = any_between(index, from, to, dates, steps)?;
     Ok(format!(in alloc; "{any}")?)
 }
 
-fn volumes_asked<L: Ledger>(
+/// The volumes of the moves up to a date or a transaction.
+fn volumes_to<L: Ledger>(
     index: &MoveIndex,
-    asked: Moves<'_>,
+    order: &str,
+    end: &str,
     steps: &mut Steps<L>,
 ) -> Result<Volumes, Fail> {
-    match asked {
-        Moves::Count => Ok(Volumes::zero()),
-        Moves::Total => Ok(index.total()),
-        Moves::InsertedTo(date) => Ok(index.at_insertion(moment_of(date)?, steps)),
-        Moves::EffectiveTo(date) => Ok(index.at_effective(moment_of(date)?, steps)),
-        Moves::TransactionTo(id) => Ok(index.at_transaction(id, steps)),
-        Moves::RankTo(date, id) => Ok(index.at_rank(moment_of(date)?, id, steps)),
-        Moves::RankBefore(date, id) => Ok(index.before_rank(moment_of(date)?, id, steps)),
-        Moves::Between(span) => volumes_between(index, span, steps),
-        Moves::Any(_) => Ok(Volumes::zero()),
+    match order.as_bytes() {
+        b"inserted-to" => Ok(index.at_insertion(moment_of(end)?, steps)),
+        b"effective-to" => Ok(index.at_effective(moment_of(end)?, steps)),
+        b"transaction-to" => Ok(index.at_transaction(number_of(end)?, steps)),
+        _ => Err("no order of moves".into()),
+    }
+}
+
+/// The volumes of the moves whose pair of effective date and transaction is at most the pair, or before it.
+fn volumes_by_rank<L: Ledger>(
+    index: &MoveIndex,
+    order: &str,
+    date: &str,
+    id: &str,
+    steps: &mut Steps<L>,
+) -> Result<Volumes, Fail> {
+    let date = moment_of(date)?;
+    let id = number_of(id)?;
+    match order.as_bytes() {
+        b"rank-to" => Ok(index.at_rank(date, id, steps)),
+        b"rank-before" => Ok(index.before_rank(date, id, steps)),
+        _ => Err("no order of moves".into()),
     }
 }
 
 fn told_by<L: Ledger>(
     alloc: Global,
     index: &MoveIndex,
-    asked: Moves<'_>,
+    words: &[&str],
     blank: Blank,
 ) -> Result<String, Fail>
     requires name { blank.name ≡ L.name }
@@ -118,25 +109,33 @@ fn told_by<L: Ledger>(
     requires some { 0 < L.parts }
 {
     let mut steps = Steps::<L>::new(blank);
-    match asked {
-        Moves::Count => Ok(format!(in alloc; "{}", index.len())?),
-        Moves::Any(span) => told_any(alloc, index, span, &mut steps),
-        _ => told_volumes(alloc, volumes_asked(index, asked, &mut steps)?),
+    match *words {
+        ["count"] => Ok(format!(in alloc; "{}", index.len())?),
+        ["total"] => told_volumes(alloc, index.total()),
+        [order, end] => told_volumes(alloc, volumes_to(index, order, end, &mut steps)?),
+        [order, date, id] => {
+            told_volumes(alloc, volumes_by_rank(index, order, date, id, &mut steps)?)
+        }
+        ["any", from, to, dates] => told_any(alloc, index, from, to, dates, &mut steps),
+        ["between", from, to, dates] => {
+            told_volumes(alloc, volumes_between(index, from, to, dates, &mut steps)?)
+        }
+        _ => Err("no question of moves".into()),
     }
 }
 
-fn told_index(alloc: Global, index: &MoveIndex, asked: Moves<'_>) -> Result<String, Fail> {
-    told_by::<Brand>(alloc, index, asked, Blank::new(1))
+fn told_index(alloc: Global, index: &MoveIndex, words: &[&str]) -> Result<String, Fail> {
+    told_by::<Brand>(alloc, index, words, Blank::new(1))
 }
 
-/// What is answered of moves, as a text; `none` where there is no index.
+/// What is answered of moves, and `none` where there is no index.
 pub fn told_moves(
     alloc: Global,
     index: Option<&MoveIndex>,
-    asked: Moves<'_>,
+    words: &[&str],
 ) -> Result<String, Fail> {
     match index {
-        Some(index) => told_index(alloc, index, asked),
+        Some(index) => told_index(alloc, index, words),
         None => text_of(alloc, b"none"),
     }
 }
