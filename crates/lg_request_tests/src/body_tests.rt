@@ -1,381 +1,146 @@
 //! The faults of bodies.
 
-use crate::requests::{call_of, post};
+use crate::requests::{Request, call_of};
+use crate::tables::check;
 use crate::told_calls::told_call;
 use std::alloc::Global;
-use std::process::Abort;
 use std::test::Fail;
 
-/// What is asked for by a body that is posted to a target.
-fn told(alloc: Global, target: &str, body: &str) -> Result<String, Fail> {
-    told_call(alloc, &call_of(alloc, &post(1, target, body))?)
-}
-
-/// The body of a refusal of what can't be read.
-fn invalid(alloc: Global, message: &str) -> Result<String, Fail> {
-    Ok(format!(in alloc; "{{\"errorCode\":\"VALIDATION\",\"errorMessage\":\"{message}\"}}")?)
-}
-
-/// Asserts that bodies are refused with the messages of a table. Each row stands between the two parts of a body.
-fn check_faults(
-    rt: &impl Abort,
-    alloc: Global,
-    target: &str,
-    around: [&str; 2],
-    table: &[(&str, &str)],
-) -> Result<(), Fail> {
-    for row in table {
-        let body = [around[0], row.0, around[1]].concat(alloc)?;
-        let call = told(alloc, target, body.as_str())?;
-        assert_eq!(rt; call, invalid(alloc, row.1)?);
-    }
-    Ok(())
-}
-
-/// Asserts that lists of one element are taken, and the element is refused with the message of a table.
-fn check_elements(rt: &impl Abort, alloc: Global, table: &[(&str, &str)]) -> Result<(), Fail> {
-    for row in table {
-        let body = format!(in alloc; "[{}]", row.0)?;
-        let call = told(alloc, "/v2/default/_bulk", body.as_str())?;
-        let refusal = invalid(alloc, row.1)?;
-        let list = format!(in alloc; "atomic false, goes on false: {refusal};")?;
-        assert_eq!(rt; call, list);
-    }
-    Ok(())
-}
+/// Creations with a bad posting.
+const POSTINGS: &str = r#"
+POST /v2/default/transactions {"postings":[7]} => invalid postings[0]: type
+POST /v2/default/transactions {"postings":[null]} => invalid postings[0]: type
+POST /v2/default/transactions {"postings":[{}]} => invalid postings[0].source: missing
+POST /v2/default/transactions {"postings":[{"source":7}]} => invalid postings[0].source: type
+POST /v2/default/transactions {"postings":[{"source":null}]} => invalid postings[0].source: missing
+POST /v2/default/transactions {"postings":[{"source":"a::b"}]} => invalid postings[0].source: form
+POST /v2/default/transactions {"postings":[{"source":"a"}]} => invalid postings[0].destination: missing
+POST /v2/default/transactions {"postings":[{"source":"a","destination":[]}]} => invalid postings[0].destination: type
+POST /v2/default/transactions {"postings":[{"source":"a","destination":"a:"}]} => invalid postings[0].destination: form
+POST /v2/default/transactions {"postings":[{"source":"a","destination":"b"}]} => invalid postings[0].amount: missing
+POST /v2/default/transactions {"postings":[{"source":"a","destination":"b","amount":"1"}]} => invalid postings[0].amount: type
+POST /v2/default/transactions {"postings":[{"source":"a","destination":"b","amount":-1}]} => invalid postings[0].amount: form
+POST /v2/default/transactions {"postings":[{"source":"a","destination":"b","amount":1}]} => invalid postings[0].asset: missing
+POST /v2/default/transactions {"postings":[{"source":"a","destination":"b","amount":1,"asset":7}]} => invalid postings[0].asset: type
+POST /v2/default/transactions {"postings":[{"source":"a","destination":"b","amount":1,"asset":"usd"}]} => invalid postings[0].asset: form
+POST /v2/default/transactions {"postings":[{"source":"a","destination":"b","amount":1,"asset":"USD/"}]} => invalid postings[0].asset: form
+POST /v2/default/transactions {"postings":[{"asset":7,"source":"a","amount":-1}]} => invalid postings[0].destination: missing
+POST /v2/default/transactions {"postings":[{"source":"a","destination":"b","amount":1,"asset":"EUR"},[]]} => invalid postings[1]: type
+POST /v2/default/transactions {"postings":[{"source":"a","destination":"b","amount":1,"asset":"EUR"},{"source":"a::b"}]} => invalid postings[1].source: form
+POST /v2/default/transactions {"postings":[{"source":"a","destination":"b","amount":1,"asset":"EUR"},{"source":"a","destination":"b","amount":1,"asset":"EUR"},{"source":"a","destination":"b"}]} => invalid postings[2].amount: missing
+"#;
 
 #[test]
 fn faults_of_a_posting(rt: HostRuntime) -> Result<(), Fail> {
-    check_faults(
-        &rt,
-        rt.alloc(),
-        "/v2/default/transactions",
-        [r#"{"postings":["#, "]}"],
-        &[
-            ("7", "postings[0]: type"),
-            ("null", "postings[0]: type"),
-            ("{}", "postings[0].source: missing"),
-            (r#"{"source":7}"#, "postings[0].source: type"),
-            (r#"{"source":null}"#, "postings[0].source: missing"),
-            (r#"{"source":"a::b"}"#, "postings[0].source: form"),
-            (r#"{"source":"a"}"#, "postings[0].destination: missing"),
-            (
-                r#"{"source":"a","destination":[]}"#,
-                "postings[0].destination: type",
-            ),
-            (
-                r#"{"source":"a","destination":"a:"}"#,
-                "postings[0].destination: form",
-            ),
-            (
-                r#"{"source":"a","destination":"b"}"#,
-                "postings[0].amount: missing",
-            ),
-            (
-                r#"{"source":"a","destination":"b","amount":"1"}"#,
-                "postings[0].amount: type",
-            ),
-            (
-                r#"{"source":"a","destination":"b","amount":-1}"#,
-                "postings[0].amount: form",
-            ),
-            (
-                r#"{"source":"a","destination":"b","amount":1}"#,
-                "postings[0].asset: missing",
-            ),
-            (
-                r#"{"source":"a","destination":"b","amount":1,"asset":7}"#,
-                "postings[0].asset: type",
-            ),
-            (
-                r#"{"source":"a","destination":"b","amount":1,"asset":"usd"}"#,
-                "postings[0].asset: form",
-            ),
-            (
-                r#"{"source":"a","destination":"b","amount":1,"asset":"USD/"}"#,
-                "postings[0].asset: form",
-            ),
-            (
-                r#"{"asset":7,"source":"a","amount":-1}"#,
-                "postings[0].destination: missing",
-            ),
-            (
-                r#"{"source":"a","destination":"b","amount":1,"asset":"EUR"},[]"#,
-                "postings[1]: type",
-            ),
-            (
-                r#"{"source":"a","destination":"b","amount":1,"asset":"EUR"},{"source":"a::b"}"#,
-                "postings[1].source: form",
-            ),
-            (
-                r#"{"source":"a","destination":"b","amount":1,"asset":"EUR"},{"source":"a","destination":"b","amount":1,"asset":"EUR"},{"source":"a","destination":"b"}"#,
-                "postings[2].amount: missing",
-            ),
-        ],
-    )
+    check(&rt, rt.alloc(), POSTINGS)
 }
+
+/// Creations with a bad member beside their postings.
+const MEMBERS: &str = r#"
+POST /v2/default/transactions {"postings":[{"source":"a","destination":"b","amount":1,"asset":"EUR"}],"timestamp":1} => invalid timestamp: type
+POST /v2/default/transactions {"postings":[{"source":"a","destination":"b","amount":1,"asset":"EUR"}],"timestamp":"2023-02-29T00:00:00Z"} => invalid timestamp: form
+POST /v2/default/transactions {"postings":[{"source":"a","destination":"b","amount":1,"asset":"EUR"}],"reference":[]} => invalid reference: type
+POST /v2/default/transactions {"postings":[{"source":"a","destination":"b","amount":1,"asset":"EUR"}],"reference":"rrrrrrrrrrrrrrrrrrrrrrrrrrrrrrrrrrrrrrrrrrrrrrrrrrrrrrrrrrrrrrrrrrrrrrrrrrrrrrrrrrrrrrrrrrrrrrrrrrrrrrrrrrrrrrrrrrrrrrrrrrrrrrrrrrrrrrrrrrrrrrrrrrrrrrrrrrrrrrrrrrrrrrrrrrrrrrrrrrrrrrrrrrrrrrrrrrrrrrrrrrrrrrrrrrrrrrrrrrrrrrrrrrrrrrrrrrrrrrrrrrrrrrrrrrrrrrrr"} => invalid reference: form
+POST /v2/default/transactions {"postings":[{"source":"a","destination":"b","amount":1,"asset":"EUR"}],"metadata":[]} => invalid metadata: type
+POST /v2/default/transactions {"postings":[{"source":"a","destination":"b","amount":1,"asset":"EUR"}],"metadata":{"k":1}} => invalid metadata.k: type
+POST /v2/default/transactions {"postings":[{"source":"a","destination":"b","amount":1,"asset":"EUR"}],"metadata":{"k":null}} => invalid metadata.k: type
+POST /v2/default/transactions {"postings":[{"source":"a","destination":"b","amount":1,"asset":"EUR"}],"accountMetadata":[]} => invalid accountMetadata: type
+POST /v2/default/transactions {"postings":[{"source":"a","destination":"b","amount":1,"asset":"EUR"}],"accountMetadata":{"a:":{}}} => invalid accountMetadata.a:: form
+POST /v2/default/transactions {"postings":[{"source":"a","destination":"b","amount":1,"asset":"EUR"}],"accountMetadata":{"a":null}} => invalid accountMetadata.a: type
+POST /v2/default/transactions {"postings":[{"source":"a","destination":"b","amount":1,"asset":"EUR"}],"accountMetadata":{"a":[]}} => invalid accountMetadata.a: type
+POST /v2/default/transactions {"postings":[{"source":"a","destination":"b","amount":1,"asset":"EUR"}],"accountMetadata":{"a":{"k":[]}}} => invalid accountMetadata.a.k: type
+POST /v2/default/transactions {"postings":[{"source":"a","destination":"b","amount":1,"asset":"EUR"}],"force":1} => invalid force: type
+POST /v2/default/transactions {"postings":[{"source":"a","destination":"b","amount":1,"asset":"EUR"}],"force":"true"} => invalid force: type
+POST /v2/default/transactions {"postings":[{"source":"a","destination":"b","amount":1,"asset":"EUR"}],"force":1,"accountMetadata":1,"metadata":1,"reference":1,"timestamp":1} => invalid timestamp: type
+POST /v2/default/transactions {"postings":[{"source":"a","destination":"b","amount":1,"asset":"EUR"}],"force":1,"accountMetadata":1,"metadata":1,"reference":1} => invalid reference: type
+POST /v2/default/transactions {"postings":[{"source":"a","destination":"b","amount":1,"asset":"EUR"}],"force":1,"accountMetadata":1,"metadata":1} => invalid metadata: type
+POST /v2/default/transactions {"postings":[{"source":"a","destination":"b","amount":1,"asset":"EUR"}],"force":1,"accountMetadata":1} => invalid accountMetadata: type
+"#;
 
 #[test]
 fn faults_beside_the_postings(rt: HostRuntime) -> Result<(), Fail> {
-    check_faults(
-        &rt,
-        rt.alloc(),
-        "/v2/default/transactions",
-        [
-            r#"{"postings":[{"source":"a","destination":"b","amount":1,"asset":"EUR"}],"#,
-            "}",
-        ],
-        &[
-            (r#""timestamp":1"#, "timestamp: type"),
-            (r#""timestamp":"2023-02-29T00:00:00Z""#, "timestamp: form"),
-            (r#""reference":[]"#, "reference: type"),
-            (
-                r#""reference":"rrrrrrrrrrrrrrrrrrrrrrrrrrrrrrrrrrrrrrrrrrrrrrrrrrrrrrrrrrrrrrrrrrrrrrrrrrrrrrrrrrrrrrrrrrrrrrrrrrrrrrrrrrrrrrrrrrrrrrrrrrrrrrrrrrrrrrrrrrrrrrrrrrrrrrrrrrrrrrrrrrrrrrrrrrrrrrrrrrrrrrrrrrrrrrrrrrrrrrrrrrrrrrrrrrrrrrrrrrrrrrrrrrrrrrrrrrrrrrrrrrrrrrrrrrrrrrrr""#,
-                "reference: form",
-            ),
-            (r#""metadata":[]"#, "metadata: type"),
-            (r#""metadata":{"k":1}"#, "metadata.k: type"),
-            (r#""metadata":{"k":null}"#, "metadata.k: type"),
-            (r#""accountMetadata":[]"#, "accountMetadata: type"),
-            (r#""accountMetadata":{"a:":{}}"#, "accountMetadata.a:: form"),
-            (r#""accountMetadata":{"a":null}"#, "accountMetadata.a: type"),
-            (r#""accountMetadata":{"a":[]}"#, "accountMetadata.a: type"),
-            (
-                r#""accountMetadata":{"a":{"k":[]}}"#,
-                "accountMetadata.a.k: type",
-            ),
-            (r#""force":1"#, "force: type"),
-            (r#""force":"true""#, "force: type"),
-            (
-                r#""force":1,"accountMetadata":1,"metadata":1,"reference":1,"timestamp":1"#,
-                "timestamp: type",
-            ),
-            (
-                r#""force":1,"accountMetadata":1,"metadata":1,"reference":1"#,
-                "reference: type",
-            ),
-            (
-                r#""force":1,"accountMetadata":1,"metadata":1"#,
-                "metadata: type",
-            ),
-            (r#""force":1,"accountMetadata":1"#, "accountMetadata: type"),
-        ],
-    )
+    check(&rt, rt.alloc(), MEMBERS)
 }
 
-#[test]
-fn faults_of_whole_bodies(rt: HostRuntime) -> Result<(), Fail> {
-    check_faults(
-        &rt,
-        rt.alloc(),
-        "/v2/default/transactions",
-        ["", ""],
-        &[
-            ("null", "body: missing"),
-            ("[]", "body: type"),
-            (r#"{"postings":{}}"#, "postings: type"),
-            ("{", "body: syntax at byte 1"),
-            ("[1.0]", "body: not whole at byte 1"),
-            (r#"{"a":1,"a":2}"#, "body: repeated at byte 7"),
-            (
-                "[170141183460469231731687303715884105728]",
-                "body: too wide at byte 1",
-            ),
-        ],
-    )
-}
+/// Bodies that are bad as a whole, metadata, ledgers, reverts and lists.
+const BODIES: &str = r#"
+POST /v2/default/transactions null => invalid body: missing
+POST /v2/default/transactions [] => invalid body: type
+POST /v2/default/transactions {"postings":{}} => invalid postings: type
+POST /v2/default/transactions { => invalid body: syntax at byte 1
+POST /v2/default/transactions [1.0] => invalid body: not whole at byte 1
+POST /v2/default/transactions {"a":1,"a":2} => invalid body: repeated at byte 7
+POST /v2/default/transactions [170141183460469231731687303715884105728] => invalid body: too wide at byte 1
+POST /v2/default/accounts/a/metadata null => invalid body: missing
+POST /v2/default/accounts/a/metadata [] => invalid body: type
+POST /v2/default/accounts/a/metadata {"k":1} => invalid k: type
+POST /v2/default/accounts/a/metadata {"k":null} => invalid k: type
+POST /v2/default/accounts/a/metadata {"a":"b","k":{}} => invalid k: type
+POST /v2/other [] => invalid body: type
+POST /v2/other {"bucket":7} => invalid bucket: type
+POST /v2/other {"bucket":""} => invalid bucket: form
+POST /v2/other {"metadata":[]} => invalid metadata: type
+POST /v2/other {"metadata":{"k":1}} => invalid metadata.k: type
+POST /v2/other {"features":1} => invalid features: type
+POST /v2/other {"features":{"f":null}} => invalid features: form
+POST /v2/other {"features":1,"metadata":1} => invalid metadata: type
+POST /v2/other {"features":1,"metadata":1,"bucket":1} => invalid bucket: type
+POST /v2/default/transactions/7/revert [] => invalid body: type
+POST /v2/default/transactions/7/revert 7 => invalid body: type
+POST /v2/default/transactions/7/revert {"metadata":[]} => invalid metadata: type
+POST /v2/default/transactions/7/revert {"metadata":{"k":"v"}} => invalid metadata: form
+POST /v2/default/_bulk {} => invalid body: type
+POST /v2/default/_bulk null => invalid body: type
+POST /v2/default/_bulk 7 => invalid body: type
+POST /v2/default/_bulk [ => invalid body: syntax at byte 1
+"#;
 
 #[test]
-fn faults_of_metadata(rt: HostRuntime) -> Result<(), Fail> {
-    check_faults(
-        &rt,
-        rt.alloc(),
-        "/v2/default/accounts/a/metadata",
-        ["", ""],
-        &[
-            ("null", "body: missing"),
-            ("[]", "body: type"),
-            (r#"{"k":1}"#, "k: type"),
-            (r#"{"k":null}"#, "k: type"),
-            (r#"{"a":"b","k":{}}"#, "k: type"),
-        ],
-    )
+fn faults_of_bodies(rt: HostRuntime) -> Result<(), Fail> {
+    check(&rt, rt.alloc(), BODIES)
 }
 
-#[test]
-fn faults_of_a_ledger(rt: HostRuntime) -> Result<(), Fail> {
-    check_faults(
-        &rt,
-        rt.alloc(),
-        "/v2/other",
-        ["", ""],
-        &[
-            ("[]", "body: type"),
-            (r#"{"bucket":7}"#, "bucket: type"),
-            (r#"{"bucket":""}"#, "bucket: form"),
-            (r#"{"metadata":[]}"#, "metadata: type"),
-            (r#"{"metadata":{"k":1}}"#, "metadata.k: type"),
-            (r#"{"features":1}"#, "features: type"),
-            (r#"{"features":{"f":null}}"#, "features: form"),
-            (r#"{"features":1,"metadata":1}"#, "metadata: type"),
-            (r#"{"features":1,"metadata":1,"bucket":1}"#, "bucket: type"),
-        ],
-    )
-}
-
-#[test]
-fn faults_of_a_revert(rt: HostRuntime) -> Result<(), Fail> {
-    check_faults(
-        &rt,
-        rt.alloc(),
-        "/v2/default/transactions/7/revert",
-        ["", ""],
-        &[
-            ("[]", "body: type"),
-            ("7", "body: type"),
-            (r#"{"metadata":[]}"#, "metadata: type"),
-            (r#"{"metadata":{"k":"v"}}"#, "metadata: form"),
-        ],
-    )
-}
-
-#[test]
-fn faults_of_a_list(rt: HostRuntime) -> Result<(), Fail> {
-    check_faults(
-        &rt,
-        rt.alloc(),
-        "/v2/default/_bulk",
-        ["", ""],
-        &[
-            ("{}", "body: type"),
-            ("null", "body: type"),
-            ("7", "body: type"),
-            ("[", "body: syntax at byte 1"),
-        ],
-    )
-}
+/// Lists of one element that is bad.
+const ELEMENTS: &str = r#"
+POST /v2/default/_bulk [null] => atomic false, goes on false: invalid body: type
+POST /v2/default/_bulk [{}] => atomic false, goes on false: invalid action: missing
+POST /v2/default/_bulk [{"action":7}] => atomic false, goes on false: invalid action: type
+POST /v2/default/_bulk [{"action":"X"}] => atomic false, goes on false: invalid action: form
+POST /v2/default/_bulk [{"action":"ADD_METADATA","ik":7}] => atomic false, goes on false: invalid ik: type
+POST /v2/default/_bulk [{"action":"ADD_METADATA","ik":" "}] => atomic false, goes on false: invalid ik: form
+POST /v2/default/_bulk [{"ik":" ","action":"X"}] => atomic false, goes on false: invalid action: form
+POST /v2/default/_bulk [{"action":"CREATE_TRANSACTION"}] => atomic false, goes on false: invalid data: missing
+POST /v2/default/_bulk [{"action":"CREATE_TRANSACTION","data":[]}] => atomic false, goes on false: invalid data: type
+POST /v2/default/_bulk [{"action":"CREATE_TRANSACTION","data":{"postings":[{}]}}] => atomic false, goes on false: invalid data.postings[0].source: missing
+POST /v2/default/_bulk [{"action":"CREATE_TRANSACTION","data":{"postings":[{"source":"a","destination":"b","amount":1,"asset":"EUR"}],"force":1}}] => atomic false, goes on false: invalid data.force: type
+POST /v2/default/_bulk [{"action":"ADD_METADATA"}] => atomic false, goes on false: invalid data: missing
+POST /v2/default/_bulk [{"action":"ADD_METADATA","data":[]}] => atomic false, goes on false: invalid data: type
+POST /v2/default/_bulk [{"action":"ADD_METADATA","data":{}}] => atomic false, goes on false: invalid data.targetType: missing
+POST /v2/default/_bulk [{"action":"ADD_METADATA","data":{"targetType":7}}] => atomic false, goes on false: invalid data.targetType: type
+POST /v2/default/_bulk [{"action":"ADD_METADATA","data":{"targetType":"X"}}] => atomic false, goes on false: invalid data.targetType: form
+POST /v2/default/_bulk [{"action":"ADD_METADATA","data":{"targetType":"ACCOUNT"}}] => atomic false, goes on false: invalid data.targetId: missing
+POST /v2/default/_bulk [{"action":"ADD_METADATA","data":{"targetType":"ACCOUNT","targetId":7}}] => atomic false, goes on false: invalid data.targetId: type
+POST /v2/default/_bulk [{"action":"ADD_METADATA","data":{"targetType":"ACCOUNT","targetId":"a:"}}] => atomic false, goes on false: invalid data.targetId: form
+POST /v2/default/_bulk [{"action":"ADD_METADATA","data":{"targetType":"TRANSACTION"}}] => atomic false, goes on false: invalid data.targetId: missing
+POST /v2/default/_bulk [{"action":"ADD_METADATA","data":{"targetType":"TRANSACTION","targetId":"1"}}] => atomic false, goes on false: invalid data.targetId: type
+POST /v2/default/_bulk [{"action":"ADD_METADATA","data":{"targetType":"TRANSACTION","targetId":-1}}] => atomic false, goes on false: invalid data.targetId: form
+POST /v2/default/_bulk [{"action":"ADD_METADATA","data":{"targetType":"ACCOUNT","targetId":"a"}}] => atomic false, goes on false: invalid data.metadata: missing
+POST /v2/default/_bulk [{"action":"ADD_METADATA","data":{"targetType":"ACCOUNT","targetId":"a","metadata":[]}}] => atomic false, goes on false: invalid data.metadata: type
+POST /v2/default/_bulk [{"action":"ADD_METADATA","data":{"targetType":"ACCOUNT","targetId":"a","metadata":{"k":1}}}] => atomic false, goes on false: invalid data.metadata.k: type
+POST /v2/default/_bulk [{"action":"REVERT_TRANSACTION","data":{}}] => atomic false, goes on false: invalid data.id: missing
+POST /v2/default/_bulk [{"action":"REVERT_TRANSACTION","data":{"id":"1"}}] => atomic false, goes on false: invalid data.id: type
+POST /v2/default/_bulk [{"action":"REVERT_TRANSACTION","data":{"id":18446744073709551616}}] => atomic false, goes on false: invalid data.id: form
+POST /v2/default/_bulk [{"action":"REVERT_TRANSACTION","data":{"id":1,"force":1}}] => atomic false, goes on false: invalid data.force: type
+POST /v2/default/_bulk [{"action":"REVERT_TRANSACTION","data":{"id":1,"atEffectiveDate":0}}] => atomic false, goes on false: invalid data.atEffectiveDate: type
+POST /v2/default/_bulk [{"action":"DELETE_METADATA","data":{}}] => atomic false, goes on false: invalid data.targetType: missing
+POST /v2/default/_bulk [{"action":"DELETE_METADATA","data":{"targetType":"TRANSACTION","targetId":true}}] => atomic false, goes on false: invalid data.targetId: type
+POST /v2/default/_bulk [{"action":"DELETE_METADATA","data":{"targetType":"ACCOUNT","targetId":"a"}}] => atomic false, goes on false: invalid data.key: missing
+POST /v2/default/_bulk [{"action":"DELETE_METADATA","data":{"targetType":"ACCOUNT","targetId":"a","key":1}}] => atomic false, goes on false: invalid data.key: type
+"#;
 
 #[test]
 fn faults_of_elements(rt: HostRuntime) -> Result<(), Fail> {
-    check_elements(
-        &rt,
-        rt.alloc(),
-        &[
-            ("null", "body: type"),
-            ("{}", "action: missing"),
-            (r#"{"action":7}"#, "action: type"),
-            (r#"{"action":"X"}"#, "action: form"),
-            (r#"{"action":"ADD_METADATA","ik":7}"#, "ik: type"),
-            (r#"{"action":"ADD_METADATA","ik":" "}"#, "ik: form"),
-            (r#"{"ik":" ","action":"X"}"#, "action: form"),
-            (r#"{"action":"CREATE_TRANSACTION"}"#, "data: missing"),
-            (r#"{"action":"CREATE_TRANSACTION","data":[]}"#, "data: type"),
-            (
-                r#"{"action":"CREATE_TRANSACTION","data":{"postings":[{}]}}"#,
-                "data.postings[0].source: missing",
-            ),
-            (
-                r#"{"action":"CREATE_TRANSACTION","data":{"postings":[{"source":"a","destination":"b","amount":1,"asset":"EUR"}],"force":1}}"#,
-                "data.force: type",
-            ),
-            (r#"{"action":"ADD_METADATA"}"#, "data: missing"),
-            (r#"{"action":"ADD_METADATA","data":[]}"#, "data: type"),
-        ],
-    )
-}
-
-#[test]
-fn faults_of_data(rt: HostRuntime) -> Result<(), Fail> {
-    check_elements(
-        &rt,
-        rt.alloc(),
-        &[
-            (
-                r#"{"action":"ADD_METADATA","data":{}}"#,
-                "data.targetType: missing",
-            ),
-            (
-                r#"{"action":"ADD_METADATA","data":{"targetType":7}}"#,
-                "data.targetType: type",
-            ),
-            (
-                r#"{"action":"ADD_METADATA","data":{"targetType":"X"}}"#,
-                "data.targetType: form",
-            ),
-            (
-                r#"{"action":"ADD_METADATA","data":{"targetType":"ACCOUNT"}}"#,
-                "data.targetId: missing",
-            ),
-            (
-                r#"{"action":"ADD_METADATA","data":{"targetType":"ACCOUNT","targetId":7}}"#,
-                "data.targetId: type",
-            ),
-            (
-                r#"{"action":"ADD_METADATA","data":{"targetType":"ACCOUNT","targetId":"a:"}}"#,
-                "data.targetId: form",
-            ),
-            (
-                r#"{"action":"ADD_METADATA","data":{"targetType":"TRANSACTION"}}"#,
-                "data.targetId: missing",
-            ),
-            (
-                r#"{"action":"ADD_METADATA","data":{"targetType":"TRANSACTION","targetId":"1"}}"#,
-                "data.targetId: type",
-            ),
-            (
-                r#"{"action":"ADD_METADATA","data":{"targetType":"TRANSACTION","targetId":-1}}"#,
-                "data.targetId: form",
-            ),
-            (
-                r#"{"action":"ADD_METADATA","data":{"targetType":"ACCOUNT","targetId":"a"}}"#,
-                "data.metadata: missing",
-            ),
-            (
-                r#"{"action":"ADD_METADATA","data":{"targetType":"ACCOUNT","targetId":"a","metadata":[]}}"#,
-                "data.metadata: type",
-            ),
-            (
-                r#"{"action":"ADD_METADATA","data":{"targetType":"ACCOUNT","targetId":"a","metadata":{"k":1}}}"#,
-                "data.metadata.k: type",
-            ),
-            (
-                r#"{"action":"REVERT_TRANSACTION","data":{}}"#,
-                "data.id: missing",
-            ),
-            (
-                r#"{"action":"REVERT_TRANSACTION","data":{"id":"1"}}"#,
-                "data.id: type",
-            ),
-            (
-                r#"{"action":"REVERT_TRANSACTION","data":{"id":18446744073709551616}}"#,
-                "data.id: form",
-            ),
-            (
-                r#"{"action":"REVERT_TRANSACTION","data":{"id":1,"force":1}}"#,
-                "data.force: type",
-            ),
-            (
-                r#"{"action":"REVERT_TRANSACTION","data":{"id":1,"atEffectiveDate":0}}"#,
-                "data.atEffectiveDate: type",
-            ),
-            (
-                r#"{"action":"DELETE_METADATA","data":{}}"#,
-                "data.targetType: missing",
-            ),
-            (
-                r#"{"action":"DELETE_METADATA","data":{"targetType":"TRANSACTION","targetId":true}}"#,
-                "data.targetId: type",
-            ),
-            (
-                r#"{"action":"DELETE_METADATA","data":{"targetType":"ACCOUNT","targetId":"a"}}"#,
-                "data.key: missing",
-            ),
-            (
-                r#"{"action":"DELETE_METADATA","data":{"targetType":"ACCOUNT","targetId":"a","key":1}}"#,
-                "data.key: type",
-            ),
-        ],
-    )
+    check(&rt, rt.alloc(), ELEMENTS)
 }
 
 /// A list of as many empty objects.
@@ -389,14 +154,24 @@ fn objects(alloc: Global, count: usize) -> Result<String, Fail> {
     Ok(list)
 }
 
+/// What is asked for by a list of as many empty objects.
+fn told_objects(alloc: Global, count: usize) -> Result<String, Fail> {
+    let list = objects(alloc, count)?;
+    let request = Request {
+        day: 1,
+        method: "POST",
+        target: "/v2/default/_bulk",
+        key: "",
+        body: list.as_str(),
+    };
+    told_call(alloc, &call_of(alloc, &request)?)
+}
+
+const TOO_MANY: &str = r#"{"errorCode":"BULK_SIZE_EXCEEDED","errorMessage":"1001 elements"}"#;
+
 #[test]
 fn lists_have_at_most_a_thousand_elements(rt: HostRuntime) -> Result<(), Fail> {
-    let alloc = rt.alloc();
-    let list = objects(alloc, 1001)?;
-    let call = told(alloc, "/v2/default/_bulk", list.as_str())?;
-    assert_eq!(rt;
-        call.as_str(),
-        r#"{"errorCode":"BULK_SIZE_EXCEEDED","errorMessage":"1001 elements"}"#
-    );
+    let call = told_objects(rt.alloc(), 1001)?;
+    assert!(rt; call.as_str() == TOO_MANY);
     Ok(())
 }

@@ -47,33 +47,6 @@ pub struct Request<'a> {
     pub body: &'a str,
 }
 
-/// A request that posts a body to a target.
-pub fn post<'a>(day: u8, target: &'a str, body: &'a str) -> Request<'a> {
-    keyed(day, target, "", body)
-}
-
-/// A request that posts a body to a target, with a key.
-pub fn keyed<'a>(day: u8, target: &'a str, key: &'a str, body: &'a str) -> Request<'a> {
-    Request {
-        day,
-        method: "POST",
-        target,
-        key,
-        body,
-    }
-}
-
-/// A request without a key and a body.
-pub fn bare<'a>(day: u8, method: &'a str, target: &'a str) -> Request<'a> {
-    Request {
-        day,
-        method,
-        target,
-        key: "",
-        body: "",
-    }
-}
-
 fn body_of(alloc: Global, text: &str) -> RequestBody {
     if text.is_empty() {
         return RequestBody::None;

@@ -43,12 +43,12 @@ fn told_element(alloc: Global, element: &Element) -> Result<String, Fail> {
     }
 }
 
-/// The elements, one after the other.
+/// The elements, each behind a blank.
 fn told_elements(alloc: Global, elements: &Elements) -> Result<String, Fail> {
     let mut feed = ByteFeed::new(alloc);
     for element in elements.as_slice() {
+        feed.piece(b" ")?;
         feed.piece(told_element(alloc, element)?.as_bytes())?;
-        feed.piece(b";")?;
     }
     text_of(alloc, feed.bytes())
 }
@@ -60,7 +60,7 @@ fn told_list(
     go_on: bool,
 ) -> Result<String, Fail> {
     let elements = told_elements(alloc, elements)?;
-    Ok(format!(in alloc; "atomic {atomic}, goes on {go_on}: {elements}")?)
+    Ok(format!(in alloc; "atomic {atomic}, goes on {go_on}:{elements}")?)
 }
 
 fn told_expand(alloc: Global, expand: Expand, pit: Option<i64>) -> Result<String, Fail> {
