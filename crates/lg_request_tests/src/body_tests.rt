@@ -1,8 +1,8 @@
 //! The faults of bodies.
 
-use crate::requests::{Request, call_of};
+use crate::requests::Request;
 use crate::tables::check;
-use crate::told_calls::told_call;
+use crate::told_calls::told_request;
 use std::alloc::Global;
 use std::test::Fail;
 
@@ -164,7 +164,7 @@ fn told_objects(alloc: Global, count: usize) -> Result<String, Fail> {
         key: "",
         body: list.as_str(),
     };
-    told_call(alloc, &call_of(alloc, &request)?)
+    told_request(alloc, &request)
 }
 
 const TOO_MANY: &str = r#"{"errorCode":"BULK_SIZE_EXCEEDED","errorMessage":"1001 elements"}"#;

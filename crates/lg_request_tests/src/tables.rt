@@ -1,7 +1,7 @@
 //! Tables of requests.
 
-use crate::requests::{Request, call_of};
-use crate::told_calls::told_call;
+use crate::requests::Request;
+use crate::told_calls::told_request;
 use std::alloc::Global;
 use std::process::Abort;
 use std::test::Fail;
@@ -24,7 +24,7 @@ pub fn check_request(
     request: &Request<'_>,
     expected: &str,
 ) -> Result<(), Fail> {
-    let call = told_call(alloc, &call_of(alloc, request)?)?;
+    let call = told_request(alloc, request)?;
     let expected = in_full(alloc, expected)?;
     assert!(rt;
         call.as_str() == expected.as_str(),

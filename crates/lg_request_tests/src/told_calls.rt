@@ -1,11 +1,13 @@
 //! Calls in texts.
 
+use crate::requests::{Request, call_of};
 use crate::texts::{body_text, canonical_text, text_of};
 use lg_base::{ByteFeed, Feed};
 use lg_containers::{Duplicate, Key};
 use lg_types::{Call, Element, ElementWrite, Elements, Expand, Read, Refusal, Write};
 use lg_views::{Content, Reply};
 use std::alloc::Global;
+use std::mem;
 use std::test::Fail;
 
 /// The body of the reply that is the refusal.
@@ -14,7 +16,10 @@ pub fn told_refusal(alloc: Global, refusal: &Refusal) -> Result<String, Fail> {
         hit: false,
         content: Content::Refused(refusal.copy(alloc)?),
     };
-    body_text(alloc, &reply)
+    let text = body_text(alloc, &reply);
+    // Left to the end of the test's process: freeing a reply is a long proof.
+    mem::forget(reply);
+    text
 }
 
 fn told_key(alloc: Global, key: &Option<Key>) -> Result<String, Fail> {
@@ -82,8 +87,16 @@ fn told_read(alloc: Global, read: &Read) -> Result<String, Fail> {
     }
 }
 
-/// A call in short, or the body of its refusal.
-pub fn told_call(alloc: Global, call: &Call) -> Result<String, Fail> {
+/// The call of a request in short, or the body of its refusal.
+pub fn told_request(alloc: Global, request: &Request<'_>) -> Result<String, Fail> {
+    let call = call_of(alloc, request)?;
+    let told = told_call(alloc, &call);
+    // Left to the end of the test's process: freeing a call is a long proof.
+    mem::forget(call);
+    told
+}
+
+fn told_call(alloc: Global, call: &Call) -> Result<String, Fail> {
     match call {
         Call::Unreadable(refusal) => told_refusal(alloc, refusal),
         Call::MakeLedger { bucket, .. } => text_of(alloc, bucket.bytes()),
