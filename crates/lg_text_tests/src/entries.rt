@@ -44,7 +44,11 @@ struct Lines {
 impl Reader for Lines {
     fn told(&self, alloc: Global, text: &str) -> Result<String, Fail> {
         match entry_of_line(alloc, text.as_bytes(), self.recompute) {
-            Ok(found) => told_found(alloc, &found, text),
+            Ok(found) => {
+                let told = told_found(alloc, &found, text);
+                drop(found);
+                told
+            }
             Err(fault) => told_fault(alloc, &fault),
         }
     }

@@ -1,4 +1,4 @@
-//! Texts read and written: worked bodies, lines of entries, filters, tokens and queries, each with what it comes to.
+//! Texts read and written: worked requests, bodies, lines of entries, filters and tokens, each with what it comes to.
 #![tactic(auto)]
 
 #[cfg(test)]
@@ -16,6 +16,10 @@ mod names;
 #[cfg(test)]
 mod replies;
 #[cfg(test)]
+mod request_bodies;
+#[cfg(test)]
+mod requests;
+#[cfg(test)]
 mod stops;
 #[cfg(test)]
 mod tables;
@@ -23,3 +27,5 @@ mod tables;
 mod token_texts;
 #[cfg(test)]
 mod tokens;
+#[cfg(test)]
+mod told_calls;

@@ -15,12 +15,15 @@ use std::test::Fail;
 fn check_reply(
     rt: &impl Abort,
     alloc: Global,
-    reply: &Reply,
+    reply: Reply,
     status: u16,
     body: &str,
 ) -> Result<(), Fail> {
-    let told = body_text(alloc, reply)?;
-    assert!(rt; status_of(reply) == status);
+    let found = status_of(&reply);
+    let told = body_text(alloc, &reply);
+    drop(reply);
+    let told = told?;
+    assert!(rt; found == status);
     assert!(rt; told.as_str() == body, "{told}");
     Ok(())
 }
@@ -37,7 +40,7 @@ const NO_TRANSACTION: &str = r#"{"errorCode":"NOT_FOUND","errorMessage":"transac
 #[test]
 fn refusals(rt: HostRuntime) -> Result<(), Fail> {
     let refused = plain(Content::Refused(Refusal::NoTransaction { id: 7 }));
-    check_reply(&rt, rt.alloc(), &refused, 404, NO_TRANSACTION)
+    check_reply(&rt, rt.alloc(), refused, 404, NO_TRANSACTION)
 }
 
 fn failed_item(alloc: Global) -> Result<BulkItem, NameFault> {
@@ -69,7 +72,7 @@ const LIST: &str =
 #[test]
 fn failed_elements(rt: HostRuntime) -> Result<(), Fail> {
     let reply = list_reply(rt.alloc())?;
-    check_reply(&rt, rt.alloc(), &reply, 400, LIST)
+    check_reply(&rt, rt.alloc(), reply, 400, LIST)
 }
 
 fn volumes_of(
@@ -134,5 +137,5 @@ fn a_new_transaction_is_shown(rt: HostRuntime) -> Result<(), Fail> {
         output: 100,
     };
     let reply = created(rt.alloc(), none, spent)?;
-    check_reply(&rt, rt.alloc(), &reply, 200, CREATED)
+    check_reply(&rt, rt.alloc(), reply, 200, CREATED)
 }

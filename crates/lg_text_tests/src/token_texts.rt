@@ -1,10 +1,9 @@
 //! Texts of tokens, against another program.
 
+use lg_filters::read_filter;
+use lg_json::read;
 use lg_token_texts::token_of;
-use lg_types::{
-    Address, After, Asset, Expand, Field, Filter, ListKind, NameFault, Op, Query, Span, Text, Value,
-};
-use sqlite_items::{Boxed, Items};
+use lg_types::{Address, After, Asset, Expand, Filter, ListKind, Query, Span};
 use std::alloc::Global;
 use std::test::Fail;
 
@@ -27,11 +26,14 @@ fn query(page_size: u8, filter: Filter) -> Query {
     }
 }
 
-fn compared(op: Op, field: Field, value: Value) -> Filter {
-    Filter::Compare { op, field, value }
+/// A query with the filter that a text shows.
+fn filtered(alloc: Global, kind: ListKind, page_size: u8, text: &str) -> Result<Query, Fail> {
+    let value = read(alloc, text.as_bytes())?;
+    let filter = read_filter(alloc, kind, &value).ok();
+    Ok(query(page_size, filter.ok_or("no filter")?))
 }
 
-fn first_ledgers(alloc: Global) -> Result<Vec<u8>, NameFault> {
+fn first_ledgers(alloc: Global) -> Result<Vec<u8>, Fail> {
     let query = query(1, Filter::All);
     Ok(token_of(alloc, ListKind::Ledgers, &query, &After::Place(7))?)
 }
@@ -45,7 +47,7 @@ fn token_of_ledgers(rt: HostRuntime) -> Result<(), Fail> {
     Ok(())
 }
 
-fn accounts_at_a_date(alloc: Global) -> Result<Vec<u8>, NameFault> {
+fn accounts_at_a_date(alloc: Global) -> Result<Vec<u8>, Fail> {
     let mut query = query(15, Filter::All);
     query.pit = Some(0);
     query.expand = Expand {
@@ -66,7 +68,7 @@ fn token_of_accounts(rt: HostRuntime) -> Result<(), Fail> {
     Ok(())
 }
 
-fn volumes_between_dates(alloc: Global) -> Result<Vec<u8>, NameFault> {
+fn volumes_between_dates(alloc: Global) -> Result<Vec<u8>, Fail> {
     let mut query = query(100, Filter::All);
     query.span = Span {
         from: Some(0),
@@ -91,37 +93,12 @@ fn token_of_volumes(rt: HostRuntime) -> Result<(), Fail> {
     Ok(())
 }
 
-/// The metadata `k"` are `v` and the end of a line.
-fn with_metadata(alloc: Global) -> Result<Filter, NameFault> {
-    Ok(compared(
-        Op::Equal,
-        Field::Metadata(Text::read(alloc, b"k\"")?),
-        Value::Text(Text::read(alloc, b"v\n")?),
-    ))
-}
+/// A name with a quote, a value with the end of a line, the least balance that there is.
+const FILTER_OF_ACCOUNTS: &str =
+    r#"{"$and":[{"$match":{"metadata[k\"]":"v\n"}},{"$not":{"$gte":{"balance[USD/2]":-170141183460469231731687303715884105728}}},{"$or":[]},{"$exists":{"metadata":"n"}},{}]}"#;
 
-/// The balance isn't the least that there is, or above.
-fn without_balance(alloc: Global) -> Result<Filter, NameFault> {
-    let balance = compared(
-        Op::GreaterEqual,
-        Field::Balance(Asset::read(alloc, b"USD/2")?),
-        Value::Whole(i128::MIN),
-    );
-    Ok(Filter::Not(Boxed::new(alloc, balance)?))
-}
-
-fn filters_of_accounts(alloc: Global) -> Result<Filter, NameFault> {
-    let mut filters = Items::new(alloc);
-    filters.push(with_metadata(alloc)?)?;
-    filters.push(without_balance(alloc)?)?;
-    filters.push(Filter::Either(Items::new(alloc)))?;
-    filters.push(Filter::Has(Text::read(alloc, b"n")?))?;
-    filters.push(Filter::All)?;
-    Ok(Filter::Both(filters))
-}
-
-fn filtered_accounts(alloc: Global) -> Result<Vec<u8>, NameFault> {
-    let query = query(2, filters_of_accounts(alloc)?);
+fn filtered_accounts(alloc: Global) -> Result<Vec<u8>, Fail> {
+    let query = filtered(alloc, ListKind::Accounts, 2, FILTER_OF_ACCOUNTS)?;
     let after = After::Address(Address::read(alloc, b"a")?);
     Ok(token_of(alloc, ListKind::Accounts, &query, &after)?)
 }
@@ -136,24 +113,16 @@ fn token_with_a_filter_of_accounts(rt: HostRuntime) -> Result<(), Fail> {
     Ok(())
 }
 
-fn filters_of_transactions(alloc: Global) -> Result<Filter, NameFault> {
-    let mut filters = Items::new(alloc);
-    filters.push(compared(Op::Less, Field::Timestamp, Value::Moment(500_000)))?;
-    filters.push(compared(Op::Equal, Field::Reverted, Value::Truth(true)))?;
-    filters.push(compared(Op::LessEqual, Field::Id, Value::Whole(3)))?;
-    let source = Value::Text(Text::read(alloc, b"a:")?);
-    filters.push(compared(Op::Equal, Field::Source, source))?;
-    Ok(Filter::Either(filters))
-}
+const FILTER_OF_TRANSACTIONS: &str =
+    r#"{"$or":[{"$lt":{"timestamp":"1970-01-01T00:00:00.5Z"}},{"$match":{"reverted":true}},{"$lte":{"id":3}},{"$match":{"source":"a:"}}]}"#;
 
-fn filtered_transactions(alloc: Global) -> Result<Vec<u8>, NameFault> {
-    let mut query = query(15, filters_of_transactions(alloc)?);
+fn filtered_transactions(alloc: Global) -> Result<Vec<u8>, Fail> {
+    let mut query = filtered(alloc, ListKind::Transactions, 15, FILTER_OF_TRANSACTIONS)?;
     query.expand = Expand {
         volumes: false,
         effective: true,
     };
-    let after = After::Place(3);
-    Ok(token_of(alloc, ListKind::Transactions, &query, &after)?)
+    Ok(token_of(alloc, ListKind::Transactions, &query, &After::Place(3))?)
 }
 
 const FILTERED_TRANSACTIONS: &str =
@@ -166,14 +135,19 @@ fn token_with_a_filter_of_transactions(rt: HostRuntime) -> Result<(), Fail> {
     Ok(())
 }
 
+const FILTER_OF_LOGS: &str = r#"{"$gt":{"date":"1970-01-01T00:00:00Z"}}"#;
+
+fn filtered_logs(alloc: Global) -> Result<Vec<u8>, Fail> {
+    let query = filtered(alloc, ListKind::Logs, 15, FILTER_OF_LOGS)?;
+    Ok(token_of(alloc, ListKind::Logs, &query, &After::Place(u64::MAX))?)
+}
+
+const FILTERED_LOGS: &str =
+    "eyJraW5kIjoibG9ncyIsInBhZ2VTaXplIjoxNSwiZmlsdGVyIjp7IiRndCI6eyJkYXRlIjoiMTk3MC0wMS0wMVQwMDowMDowMFoifX0sImFmdGVyIjoxODQ0Njc0NDA3MzcwOTU1MTYxNX0";
+
 #[test]
-fn token_of_logs(rt: HostRuntime) -> Result<(), Fail> {
-    let query = query(15, compared(Op::Greater, Field::Date, Value::Moment(0)));
-    let after = After::Place(u64::MAX);
-    let token = token_of(rt.alloc(), ListKind::Logs, &query, &after)?;
-    assert_eq!(rt;
-        token.as_slice(),
-        "eyJraW5kIjoibG9ncyIsInBhZ2VTaXplIjoxNSwiZmlsdGVyIjp7IiRndCI6eyJkYXRlIjoiMTk3MC0wMS0wMVQwMDowMDowMFoifX0sImFmdGVyIjoxODQ0Njc0NDA3MzcwOTU1MTYxNX0".as_bytes()
-    );
+fn token_with_a_filter_of_logs(rt: HostRuntime) -> Result<(), Fail> {
+    let token = filtered_logs(rt.alloc())?;
+    assert!(rt; token.as_slice() == FILTERED_LOGS.as_bytes());
     Ok(())
 }

@@ -1,25 +1,43 @@
 //! Calls in texts.
 
-use crate::requests::{Request, call_of};
-use crate::texts::{body_text, canonical_text, text_of};
 use lg_base::{ByteFeed, Feed};
 use lg_containers::{Duplicate, Key};
+use lg_request_tests::{body_text, canonical_text, text_of};
 use lg_types::{Call, Element, ElementWrite, Elements, Expand, Read, Refusal, Write};
 use lg_views::{Content, Reply};
 use std::alloc::Global;
-use std::mem;
 use std::test::Fail;
 
-/// The body of the reply that is the refusal.
-pub fn told_refusal(alloc: Global, refusal: &Refusal) -> Result<String, Fail> {
+/// What a body of a refusal begins with where something can't be read; its message follows.
+const INVALID: &str = r#"{"errorCode":"VALIDATION","errorMessage":""#;
+
+/// The message of such a body, which ends with it.
+fn message_of(body: &str) -> Option<&str> {
+    let (front, rest) = body.split_once(INVALID)?;
+    let (message, end) = rest.rsplit_once(r#""}"#)?;
+    if front.is_empty() && end.is_empty() {
+        Some(message)
+    } else {
+        None
+    }
+}
+
+/// The body of a refusal; where something can't be read, `invalid` and the message of the body.
+fn told_body(alloc: Global, body: &str) -> Result<String, Fail> {
+    match message_of(body) {
+        Some(message) => Ok(["invalid ", message].concat(alloc)?),
+        None => Ok([body, ""].concat(alloc)?),
+    }
+}
+
+fn told_refusal(alloc: Global, refusal: &Refusal) -> Result<String, Fail> {
     let reply = Reply {
         hit: false,
         content: Content::Refused(refusal.copy(alloc)?),
     };
-    let text = body_text(alloc, &reply);
-    // Left to the end of the test's process: freeing a reply is a long proof.
-    mem::forget(reply);
-    text
+    let body = body_text(alloc, &reply);
+    drop(reply);
+    told_body(alloc, body?.as_str())
 }
 
 fn told_key(alloc: Global, key: &Option<Key>) -> Result<String, Fail> {
@@ -87,16 +105,8 @@ fn told_read(alloc: Global, read: &Read) -> Result<String, Fail> {
     }
 }
 
-/// The call of a request in short, or the body of its refusal.
-pub fn told_request(alloc: Global, request: &Request<'_>) -> Result<String, Fail> {
-    let call = call_of(alloc, request)?;
-    let told = told_call(alloc, &call);
-    // Left to the end of the test's process: freeing a call is a long proof.
-    mem::forget(call);
-    told
-}
-
-fn told_call(alloc: Global, call: &Call) -> Result<String, Fail> {
+/// A call in short.
+pub fn told_call(alloc: Global, call: &Call) -> Result<String, Fail> {
     match call {
         Call::Unreadable(refusal) => told_refusal(alloc, refusal),
         Call::MakeLedger { bucket, .. } => text_of(alloc, bucket.bytes()),

@@ -1,8 +1,49 @@
 //! What requests ask for: routes, names, parameters and keys.
 
-use crate::requests::Request;
-use crate::tables::{check, check_request};
+use crate::tables::{Reader, check};
+use crate::told_calls::told_call;
+use lg_request_tests::{Request, call_of};
+use std::alloc::Global;
 use std::test::Fail;
+
+/// What a request asks for, in short.
+pub fn told_request(alloc: Global, request: &Request<'_>) -> Result<String, Fail> {
+    let call = call_of(alloc, request)?;
+    let told = told_call(alloc, &call);
+    drop(call);
+    told
+}
+
+/// The two sides of a mark; the second is empty where there is none.
+fn cut(text: &str, mark: char) -> (&str, &str) {
+    match text.split_once(mark) {
+        Some(sides) => sides,
+        None => (text, ""),
+    }
+}
+
+/// A request in a line: its method, a key behind a colon, its target and its body.
+fn request_of(line: &str) -> Request<'_> {
+    let (head, rest) = cut(line, ' ');
+    let (method, key) = cut(head, ':');
+    let (target, body) = cut(rest, ' ');
+    Request {
+        day: 1,
+        method,
+        target,
+        key,
+        body,
+    }
+}
+
+/// Reads requests in a line.
+pub struct Requests;
+
+impl Reader for Requests {
+    fn told(&self, alloc: Global, text: &str) -> Result<String, Fail> {
+        told_request(alloc, &request_of(text))
+    }
+}
 
 /// Paths and methods, and names in the order of the path.
 const PATHS: &str = r#"
@@ -33,7 +74,7 @@ POST /v2/default/transactions/x/revert?force=2 => invalid id: form
 
 #[test]
 fn paths_and_methods(rt: HostRuntime) -> Result<(), Fail> {
-    check(&rt, rt.alloc(), PATHS)
+    check(&rt, rt.alloc(), &Requests, PATHS)
 }
 
 /// Escapes in targets.
@@ -49,7 +90,7 @@ POST /v2/default/transactions/1/revert?force=+true => invalid query force
 
 #[test]
 fn escapes_in_targets(rt: HostRuntime) -> Result<(), Fail> {
-    check(&rt, rt.alloc(), ESCAPES)
+    check(&rt, rt.alloc(), &Requests, ESCAPES)
 }
 
 /// Repeated parameters, of which the first counts.
@@ -64,7 +105,7 @@ GET /v2/default/accounts/a?expand=volumes&expand=all => invalid query expand
 
 #[test]
 fn the_first_of_a_repeated_parameter_counts(rt: HostRuntime) -> Result<(), Fail> {
-    check(&rt, rt.alloc(), REPEATED)
+    check(&rt, rt.alloc(), &Requests, REPEATED)
 }
 
 /// Parameters that are not asked for, and parameters before bodies.
@@ -83,7 +124,7 @@ GET /v2/default/accounts/a?pit=2024-01-01&expand=x => invalid query pit
 
 #[test]
 fn parameters_of_requests(rt: HostRuntime) -> Result<(), Fail> {
-    check(&rt, rt.alloc(), PARAMETERS)
+    check(&rt, rt.alloc(), &Requests, PARAMETERS)
 }
 
 /// Requests with a key, which is read on writes alone, after the parameters and before the body.
@@ -99,7 +140,7 @@ POST:\u{7f} /v2/default/logs/export => all entries
 
 #[test]
 fn keys_are_read_on_writes(rt: HostRuntime) -> Result<(), Fail> {
-    check(&rt, rt.alloc(), KEYED)
+    check(&rt, rt.alloc(), &Requests, KEYED)
 }
 
 /// A request with a bad parameter, a key of two lines and a bad body.
@@ -113,5 +154,7 @@ const TWO_LINES: Request<'static> = Request {
 
 #[test]
 fn a_parameter_before_a_key_of_two_lines(rt: HostRuntime) -> Result<(), Fail> {
-    check_request(&rt, rt.alloc(), &TWO_LINES, "invalid query dryRun")
+    let call = told_request(rt.alloc(), &TWO_LINES)?;
+    assert!(rt; call.as_str() == "invalid query dryRun");
+    Ok(())
 }

@@ -1,8 +1,8 @@
-//! The faults of bodies.
+//! Requests with a fault in their body.
 
-use crate::requests::Request;
+use crate::requests::{Requests, told_request};
 use crate::tables::check;
-use crate::told_calls::told_request;
+use lg_request_tests::Request;
 use std::alloc::Global;
 use std::test::Fail;
 
@@ -32,7 +32,7 @@ POST /v2/default/transactions {"postings":[{"source":"a","destination":"b","amou
 
 #[test]
 fn faults_of_a_posting(rt: HostRuntime) -> Result<(), Fail> {
-    check(&rt, rt.alloc(), POSTINGS)
+    check(&rt, rt.alloc(), &Requests, POSTINGS)
 }
 
 /// Creations with a bad member beside their postings.
@@ -59,7 +59,7 @@ POST /v2/default/transactions {"postings":[{"source":"a","destination":"b","amou
 
 #[test]
 fn faults_beside_the_postings(rt: HostRuntime) -> Result<(), Fail> {
-    check(&rt, rt.alloc(), MEMBERS)
+    check(&rt, rt.alloc(), &Requests, MEMBERS)
 }
 
 /// Bodies that are bad as a whole, metadata, ledgers, reverts and lists.
@@ -97,7 +97,7 @@ POST /v2/default/_bulk [ => invalid body: syntax at byte 1
 
 #[test]
 fn faults_of_bodies(rt: HostRuntime) -> Result<(), Fail> {
-    check(&rt, rt.alloc(), BODIES)
+    check(&rt, rt.alloc(), &Requests, BODIES)
 }
 
 /// Lists of one element that is bad.
@@ -140,7 +140,7 @@ POST /v2/default/_bulk [{"action":"DELETE_METADATA","data":{"targetType":"ACCOUN
 
 #[test]
 fn faults_of_elements(rt: HostRuntime) -> Result<(), Fail> {
-    check(&rt, rt.alloc(), ELEMENTS)
+    check(&rt, rt.alloc(), &Requests, ELEMENTS)
 }
 
 /// A list of as many empty objects.
