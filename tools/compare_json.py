@@ -4,9 +4,9 @@
     tools/compare_json.py FOLDER [SEEDS]
 
 FOLDER has `jsontext.py`, whose `read_exactly(bytes)` gives a value or raises `Fault` with a `kind` and a
-`place`, and `fuzz.py`, which prints lines of JSON, as `python3 fuzz.py SEED 300`. It needs the program
-crates/json_bench/out/json_bench, which `rt run` in crates/json_bench builds. The texts are those that fuzz.py prints,
-each body within them, fronts and changed bytes of them, and a list of texts that often go wrong.
+`place`, and `fuzz.py`, which prints lines of JSON, as `python3 fuzz.py SEED 300`. The reader is that of the program
+benches/json_bench; where it is missing or older than the sources, it is proved and built first. The texts are those that
+fuzz.py prints, fronts and changed bytes of them, and a list of texts that often go wrong.
 """
 import json
 import os
@@ -14,8 +14,10 @@ import random
 import subprocess
 import sys
 
-TOP = os.path.join(os.path.dirname(os.path.abspath(__file__)), "..")
-BENCH = os.path.join(TOP, "crates", "json_bench", "out", "json_bench")
+sys.dont_write_bytecode = True
+import proved_copy
+
+BENCH = "json_bench"
 SAMPLES = [b'{"a":[1,-2,{"b":"c"}],"d":null}', b'"\\u00e9\\ud83d\\ude00"', b'"\\ud83d"', b'"\\udc00"', b'"\\ud800\\u0041"',
            b'"\xc3\xa9"', b'"\xc3("', b'"\xed\xa0\x80"', b'"\xf4\x90\x80\x80"', b'"\xf0\x90\x80\x80"', b'"\xe0\x80\x80"',
            b" 1 ", b"1 2", b"-", b"-a", b"1e5", b"1.", b"0x", b"tru", b"nul1", b"[1,]", b'{"a":1,}', b'{"a" 1}',
@@ -61,13 +63,12 @@ def main(words):
     if not words or not os.path.exists(os.path.join(words[0], "jsontext.py")):
         print("skipped: name the folder that has jsontext.py and fuzz.py")
         return 0
-    if not os.path.exists(BENCH):
-        print("skipped: build crates/json_bench/out/json_bench first, by `rt run` in crates/json_bench")
-        return 0
+    if not proved_copy.is_built(BENCH):
+        return 1
     sys.path.insert(0, words[0])
     import jsontext
     cases = texts(words[0], int(words[1]) if len(words) > 1 else 8)
-    given = subprocess.run([BENCH], input=b"\n".join(cases) + b"\n", stdout=subprocess.PIPE, check=True).stdout.split(b"\n")
+    given = subprocess.run([proved_copy.program_of(BENCH)], input=b"\n".join(cases) + b"\n", stdout=subprocess.PIPE, check=True).stdout.split(b"\n")
     differ = 0
     for text, line in zip(cases, given):
         want, got = expected(jsontext, text), answer(line)

@@ -3,7 +3,7 @@
 
     tools/measure_json.py [WORKLOAD [PARSER]]
 
-It needs the program crates/json_bench/out/json_bench, which `rt run` in crates/json_bench builds.
+The program benches/json_bench reads; where it is missing or older than the sources, it is proved and built first.
 WORKLOAD is a program that prints lines of JSON, called as `python3 WORKLOAD script 1 100000`; without one
 the lines are the sales of a shop that this script makes. PARSER is another program that reads the same
 lines from its input, as `limit run parse`, and is timed beside it.
@@ -13,13 +13,14 @@ that of a list of as many texts of the same bytes. No number of a busy machine s
 run.
 """
 import json
-import os
 import subprocess
 import sys
 import time
 
-TOP = os.path.join(os.path.dirname(os.path.abspath(__file__)), "..")
-BENCH = os.path.join(TOP, "crates", "json_bench", "out", "json_bench")
+sys.dont_write_bytecode = True
+import proved_copy
+
+BENCH = proved_copy.program_of("json_bench")
 NAMES = 40000
 ROUNDS = 5
 
@@ -56,9 +57,8 @@ def nanoseconds(text):
 
 
 def main(words):
-    if not os.path.exists(BENCH):
-        print("skipped: build crates/json_bench/out/json_bench first, by `rt run` in crates/json_bench")
-        return
+    if not proved_copy.is_built("json_bench"):
+        sys.exit(1)
     text = workload(words[0] if words else None)
     print("lines:  %s" % nanoseconds(text)[1])
     for step in (1, 7919):
