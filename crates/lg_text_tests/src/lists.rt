@@ -146,7 +146,7 @@ const GROUPS: &str = r#"
 "#;
 
 #[test]
-fn groups(rt: HostRuntime) -> Result<(), Fail> {
+fn segments_of_addresses(rt: HostRuntime) -> Result<(), Fail> {
     check(&rt, rt.alloc(), &Groups, GROUPS)
 }
 
@@ -256,6 +256,6 @@ volumes?cursor=eyJraW5kIjoidm9sdW1lcyIsInBhZ2VTaXplIjo3LCJzdGFydFRpbWUiOiIxOTcwL
 "#;
 
 #[test]
-fn pages(rt: HostRuntime) -> Result<(), Fail> {
+fn pages_of_each_list(rt: HostRuntime) -> Result<(), Fail> {
     check(&rt, rt.alloc(), &Pages, PAGES)
 }
