@@ -1,10 +1,9 @@
 //! Requests in texts.
 
-use lg_codec::CodecStop;
 use lg_json::read;
-use lg_routes::{ListReader, RequestBody, call_of_request};
-use lg_targets::Parameter;
-use lg_types::{Call, Filter, ListKind, Query};
+use lg_lists::Lists;
+use lg_routes::{RequestBody, call_of_request};
+use lg_types::Call;
 use std::alloc::Global;
 use std::test::Fail;
 
@@ -19,24 +18,6 @@ pub fn midnight(day: u8) -> i64 {
     NEW_YEAR + (i64::from(day) - 1) * DAY
 }
 
-/// A reader for which memory is always wanting: no request asks for a list.
-struct NoLists;
-
-impl ListReader for NoLists {
-    fn read_query(
-        _: Global,
-        _: ListKind,
-        _: &[Parameter<'_>],
-        _: RequestBody,
-    ) -> Result<Query, CodecStop> {
-        Err(CodecStop::NoMemory)
-    }
-
-    fn read_filter(_: Global, _: ListKind, _: RequestBody) -> Result<Filter, CodecStop> {
-        Err(CodecStop::NoMemory)
-    }
-}
-
 /// A request at midnight of a day of January 2024. An empty key or body stands for none.
 #[derive(Clone, Copy)]
 pub struct Request<'a> {
@@ -45,33 +26,6 @@ pub struct Request<'a> {
     pub target: &'a str,
     pub key: &'a str,
     pub body: &'a str,
-}
-
-/// A request that posts a body to a target.
-pub fn post<'a>(day: u8, target: &'a str, body: &'a str) -> Request<'a> {
-    keyed(day, target, "", body)
-}
-
-/// A request that posts a body to a target, with a key.
-pub fn keyed<'a>(day: u8, target: &'a str, key: &'a str, body: &'a str) -> Request<'a> {
-    Request {
-        day,
-        method: "POST",
-        target,
-        key,
-        body,
-    }
-}
-
-/// A request without a key and a body.
-pub fn bare<'a>(day: u8, method: &'a str, target: &'a str) -> Request<'a> {
-    Request {
-        day,
-        method,
-        target,
-        key: "",
-        body: "",
-    }
 }
 
 fn body_of(alloc: Global, text: &str) -> RequestBody {
@@ -94,7 +48,7 @@ fn key_of(text: &str) -> Option<&[u8]> {
 
 /// The call of a request.
 pub fn call_of(alloc: Global, request: &Request<'_>) -> Result<Call, Fail> {
-    Ok(call_of_request::<NoLists>(
+    Ok(call_of_request::<Lists>(
         alloc,
         request.method.as_bytes(),
         request.target.as_bytes(),

@@ -1,20 +1,43 @@
 //! Calls in texts.
 
-use crate::texts::{body_text, canonical_text, text_of};
 use lg_base::{ByteFeed, Feed};
 use lg_containers::{Duplicate, Key};
+use lg_request_tests::{body_text, canonical_text, text_of};
 use lg_types::{Call, Element, ElementWrite, Elements, Expand, Read, Refusal, Write};
 use lg_views::{Content, Reply};
 use std::alloc::Global;
 use std::test::Fail;
 
-/// The body of the reply that is the refusal.
-pub fn told_refusal(alloc: Global, refusal: &Refusal) -> Result<String, Fail> {
+/// What a body of a refusal begins with where something can't be read; its message follows.
+const INVALID: &str = r#"{"errorCode":"VALIDATION","errorMessage":""#;
+
+/// The message of such a body, which ends with it.
+fn message_of(body: &str) -> Option<&str> {
+    let (front, rest) = body.split_once(INVALID)?;
+    let (message, end) = rest.rsplit_once(r#""}"#)?;
+    if front.is_empty() && end.is_empty() {
+        Some(message)
+    } else {
+        None
+    }
+}
+
+/// The body of a refusal; where something can't be read, `invalid` and the message of the body.
+fn told_body(alloc: Global, body: &str) -> Result<String, Fail> {
+    match message_of(body) {
+        Some(message) => Ok(["invalid ", message].concat(alloc)?),
+        None => Ok([body, ""].concat(alloc)?),
+    }
+}
+
+fn told_refusal(alloc: Global, refusal: &Refusal) -> Result<String, Fail> {
     let reply = Reply {
         hit: false,
         content: Content::Refused(refusal.copy(alloc)?),
     };
-    body_text(alloc, &reply)
+    let body = body_text(alloc, &reply);
+    drop(reply);
+    told_body(alloc, body?.as_str())
 }
 
 fn told_key(alloc: Global, key: &Option<Key>) -> Result<String, Fail> {
@@ -43,12 +66,12 @@ fn told_element(alloc: Global, element: &Element) -> Result<String, Fail> {
     }
 }
 
-/// The elements, one after the other.
+/// The elements, each behind a blank.
 fn told_elements(alloc: Global, elements: &Elements) -> Result<String, Fail> {
     let mut feed = ByteFeed::new(alloc);
     for element in elements.as_slice() {
+        feed.piece(b" ")?;
         feed.piece(told_element(alloc, element)?.as_bytes())?;
-        feed.piece(b";")?;
     }
     text_of(alloc, feed.bytes())
 }
@@ -60,7 +83,7 @@ fn told_list(
     go_on: bool,
 ) -> Result<String, Fail> {
     let elements = told_elements(alloc, elements)?;
-    Ok(format!(in alloc; "atomic {atomic}, goes on {go_on}: {elements}")?)
+    Ok(format!(in alloc; "atomic {atomic}, goes on {go_on}:{elements}")?)
 }
 
 fn told_expand(alloc: Global, expand: Expand, pit: Option<i64>) -> Result<String, Fail> {
@@ -82,7 +105,7 @@ fn told_read(alloc: Global, read: &Read) -> Result<String, Fail> {
     }
 }
 
-/// A call in short, or the body of its refusal.
+/// A call in short.
 pub fn told_call(alloc: Global, call: &Call) -> Result<String, Fail> {
     match call {
         Call::Unreadable(refusal) => told_refusal(alloc, refusal),
