@@ -1,7 +1,7 @@
 //! Bytes as texts.
 
 use lg_base::ByteFeed;
-use lg_codec::reply_text;
+use lg_replies::reply_text;
 use lg_containers::Canonical;
 use lg_views::Reply;
 use std::alloc::Global;
