@@ -12,7 +12,7 @@ use crate::decoding::decode;
 use crate::queries::read_query;
 use lg_base::NoMemory;
 use lg_codec::CodecStop;
-use lg_targets::same_bytes;
+use lg_routes::same_bytes;
 use lg_token_texts::laws::tokens_decode;
 use lg_token_texts::token_of;
 use lg_types::{ListKind, Query, Refusal};
