@@ -10,7 +10,7 @@ use Rattle.lg_json.specs.Tree.Tree.{null, truth, whole, part, text, list, member
 use Rattle.lg_routes.specs.Calls.{kind_of, kind_found, recomputes_in, body_kind_of}
 use Rattle.lg_routes.specs.declared.body.BodyKind.{BodyKind}
 use Rattle.lg_routes.specs.declared.body.BodyKind.TheVariants.{Ignored, Json, Lines}
-use Rattle.lg_targets.specs.Table.{found_in}
+use Rattle.lg_routes.specs.Table.{found_in}
 use Rattle.lg_types.specs.declared.calls.Call.{Call}
 use Rattle.lg_views.specs.Requests.{Body, ValueBody, IsRequest}
 use Rattle.lg_views.specs.Routes as views

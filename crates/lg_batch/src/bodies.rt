@@ -7,7 +7,7 @@ ghost use Rattle.lg_json.specs.Tree.{tree};
 ghost use Rattle.lg_views.specs.Values as values;
 
 use lg_json::{Json, Member, MemberList};
-use lg_targets::same_bytes;
+use lg_routes::same_bytes;
 
 /// The place of the first member that is named `body`.
 fn body_place(members: &[Member]) -> Option<usize>

@@ -4,14 +4,14 @@ ghost use Rattle.std.specs.Prelude.{◌≡◌};
 ghost use Rattle.lg_codec.specs.Results.{Reads};
 ghost use Rattle.lg_lists.specs.FirstPages.{FirstLedgers, FirstItems, FirstLogs, FirstVolumes};
 ghost use Rattle.lg_routes.specs.Body.{body_seen};
-ghost use Rattle.lg_targets.specs.Seen.{parameters_seen};
+ghost use Rattle.lg_routes.specs.Seen.{parameters_seen};
 ghost use Rattle.lg_views.specs.Requests as requests;
 
 use crate::number_parameters::{group_by, page_size};
 use lg_codec::CodecStop;
 use lg_filters::filter_of_json;
 use lg_routes::{RequestBody, expand, moment, refuse_order, truth, value_of_body};
-use lg_targets::Parameter;
+use lg_routes::Parameter;
 use lg_types::{Expand, Filter, ListKind, Query, Span};
 use std::alloc::Global;
 

@@ -4,7 +4,7 @@ use crate::first_pages::filter_of_body;
 use crate::queries::{items_query, ledgers_query, logs_query, volumes_query};
 use lg_codec::CodecStop;
 use lg_routes::{ListReader, RequestBody};
-use lg_targets::Parameter;
+use lg_routes::Parameter;
 use lg_types::{Filter, ListKind, Query};
 use std::alloc::Global;
 

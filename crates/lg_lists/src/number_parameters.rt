@@ -3,13 +3,13 @@
 ghost use Rattle.std.specs.Prelude.{Some};
 ghost use Rattle.lg_codec.specs.Results.{Reads};
 ghost use Rattle.lg_lists.specs.Numbers.{SizeIn, GroupIn};
-ghost use Rattle.lg_targets.specs.Seen.{parameters_seen};
+ghost use Rattle.lg_routes.specs.Seen.{parameters_seen};
 ghost use Rattle.lg_views.specs.Parameters as values;
 
 use crate::numbers::number_up_to;
 use lg_codec::CodecStop;
+use lg_routes::{Parameter, first_value};
 use lg_routes::bad_parameter;
-use lg_targets::{Parameter, first_value};
 use std::alloc::Global;
 
 fn size_in(alloc: Global, bytes: &[u8]) -> Result<u8, CodecStop>

@@ -2,13 +2,13 @@
 
 ghost use Rattle.lg_codec.specs.Results.{Reads};
 ghost use Rattle.lg_routes.specs.Body.{body_seen};
-ghost use Rattle.lg_targets.specs.Seen.{parameters_seen};
+ghost use Rattle.lg_routes.specs.Seen.{parameters_seen};
 ghost use Rattle.lg_views.specs.Requests as requests;
 
 use crate::first_pages::{first_items, first_ledgers, first_logs, first_volumes};
 use lg_codec::CodecStop;
+use lg_routes::{Parameter, first_value};
 use lg_routes::RequestBody;
-use lg_targets::{Parameter, first_value};
 use lg_tokens::read_token;
 use lg_types::{ListKind, Query};
 use std::alloc::Global;

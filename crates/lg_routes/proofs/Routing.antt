@@ -13,7 +13,7 @@ use Rattle.lg_views.specs.Targets.{Parameter, path_segments, segments_behind, pa
 use Rattle.lg_codec.specs.Results.{Reads}
 use Rattle.lg_codec.specs.declared.stop.CodecStop.{CodecStop}
 use Rattle.lg_codec.specs.declared.stop.CodecStop.TheVariants.{Refused, NoMemory}
-use Rattle.lg_targets.specs.Table.{found_in, names_of, HasNamesOf}
+use Rattle.lg_routes.specs.Table.{found_in, names_of, HasNamesOf}
 use Rattle.lg_routes.specs.Calls.{AsksAt, IsCallOf, IsCallOfAnswer, kind_found, recomputes_in, body_kind_of}
 use Rattle.lg_routes.specs.declared.body.BodyKind.{BodyKind}
 

@@ -12,7 +12,7 @@ use Rattle.lg_views.specs.Routes as views
 use Rattle.lg_views.specs.Targets.{Parameter, path_segments, query_of, parameter_of, first_value}
 use Rattle.lg_codec.specs.declared.stop.CodecStop.{CodecStop}
 use Rattle.lg_codec.specs.declared.stop.CodecStop.TheVariants.{Refused, NoMemory}
-use Rattle.lg_targets.specs.Table.{found_in}
+use Rattle.lg_routes.specs.Table.{found_in}
 use Rattle.lg_routes.specs.declared.body.BodyKind.{BodyKind}
 use Rattle.lg_routes.specs.declared.body.BodyKind.TheVariants.{Ignored, Json, Lines}
 

@@ -5,13 +5,13 @@ ghost use Rattle.lg_views.specs.Answers.{IfForm};
 ghost use Rattle.lg_views.specs.Requests as requests;
 ghost use Rattle.lg_codec.specs.Results.{Reads};
 ghost use Rattle.lg_routes.specs.Names.{TargetNamed};
-ghost use Rattle.lg_targets.specs.Seen.{bytes_seen};
+ghost use Rattle.lg_routes.specs.Seen.{bytes_seen};
 
+use crate::numbers::read_number;
 use crate::refusals::wrong;
 use lg_base::NoMemory;
 use lg_codec::CodecStop;
 use lg_containers::{Grammar, Name, NameFault};
-use lg_targets::read_number;
 use lg_types::{Address, Key, LedgerName, Reason, Target, Text};
 use std::alloc::Global;
 

@@ -6,11 +6,12 @@ ghost use Rattle.lg_views.specs.Answers.{known};
 ghost use Rattle.lg_views.specs.Parameters as values;
 ghost use Rattle.lg_views.specs.Targets.{first_value, all_values};
 ghost use Rattle.lg_codec.specs.Results.{Reads};
-ghost use Rattle.lg_targets.specs.Seen.{parameters_seen};
+ghost use Rattle.lg_routes.specs.Seen.{parameters_seen};
 
+use crate::bytes::same_bytes;
+use crate::parameters::{Parameter, first_value};
 use crate::refusals::bad_parameter;
 use lg_codec::CodecStop;
-use lg_targets::{Parameter, first_value, same_bytes};
 use lg_types::Expand;
 use std::alloc::Global;
 

@@ -8,9 +8,9 @@ ghost use Rattle.lg_views.specs.Tokens.{expand_text};
 ghost use Rattle.lg_tokens.specs.Parts.{Lacks, IsOther, dated, insertion_text, group_text};
 
 use crate::cutting::{after_word, cut_first};
-use lg_targets::read_number;
+use crate::laws::dates_read_back;
+use lg_routes::read_number;
 use lg_time::read_moment;
-use lg_token_texts::laws::dates_read_back;
 use lg_types::Expand;
 
 /// A number below 2^64 before a comma, and what stands behind it, from the comma on.

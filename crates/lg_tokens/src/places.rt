@@ -14,7 +14,7 @@ use crate::cutting::{after_word, cut_first};
 use crate::members::read_quoted;
 use lg_base::NoMemory;
 use lg_containers::{Grammar, Name};
-use lg_targets::read_number;
+use lg_routes::read_number;
 use lg_types::{Address, After, Asset, ListKind, NameFault};
 use std::alloc::Global;
 

@@ -9,12 +9,12 @@ ghost use Rattle.lg_views.specs.TokenReadings.{IsPageQuery, IsTokenOf, TokenQuer
 ghost use Rattle.lg_views.specs.Tokens.{token};
 
 use crate::decoding::decode;
+use crate::laws::tokens_decode;
 use crate::queries::read_query;
+use crate::written_tokens::token_of;
 use lg_base::NoMemory;
 use lg_codec::CodecStop;
-use lg_targets::same_bytes;
-use lg_token_texts::laws::tokens_decode;
-use lg_token_texts::token_of;
+use lg_routes::same_bytes;
 use lg_types::{ListKind, Query, Refusal};
 use std::alloc::Global;
 

@@ -1,4 +1,4 @@
-use Rattle.lg_targets.specs.Seen.{parameters_seen}
+use Rattle.lg_routes.specs.Seen.{parameters_seen}
 use Rattle.lg_lists.proofs.Sizes.{absent_size}
 use Rattle.lg_lists.proofs.number_parameters.page_size.Goals as goal
 

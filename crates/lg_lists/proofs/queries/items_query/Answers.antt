@@ -1,5 +1,5 @@
 use Rattle.lg_routes.specs.Body.{body_seen}
-use Rattle.lg_targets.specs.Seen.{parameters_seen}
+use Rattle.lg_routes.specs.Seen.{parameters_seen}
 use Rattle.lg_lists.specs.FirstPages.{FirstItems}
 use Rattle.lg_lists.proofs.Cursors.{without_cursor}
 use Rattle.lg_lists.proofs.queries.items_query.Goals as goal

@@ -1,6 +1,6 @@
 use Rattle.lg_types.specs.declared.filters.ListKind.TheVariants as kind
 use Rattle.lg_routes.specs.Body.{body_seen}
-use Rattle.lg_targets.specs.Seen.{parameters_seen}
+use Rattle.lg_routes.specs.Seen.{parameters_seen}
 use Rattle.lg_lists.specs.FirstPages.{FirstVolumes}
 use Rattle.lg_lists.proofs.Cursors.{without_cursor}
 use Rattle.lg_lists.proofs.queries.volumes_query.Goals as goal
