@@ -17,8 +17,11 @@ same_item xs i d e h = get_or_default xs i d e h
 -- the name of a member and its colon, where the test for an empty name failed
 pub member_parts : (g : ℕ → List ℕ) (bytes name : List ℕ) (r : Bool) → bytes ≡ name → r ≡ (length bytes == 0) → r ≡ false
     → flat_map g bytes ++ flat_map g (codes ": ") ≡ flat_map g (member_text name)
-member_parts g bytes [] r e is no = absurd (let t : r ≡ true = is ∙ ap (λ (l : List ℕ). length l == 0) e in cc)
-member_parts g bytes (b ∷ bs) r e is no = ap (λ (l : List ℕ). flat_map g l ++ flat_map g (codes ": ")) e ∙ sym (flat_map-append g (b ∷ bs) (codes ": "))
+member_parts g bytes [] r e is fails =
+    let none : length bytes ≡ 0 = ap length e in
+    let t : r ≡ true = is ∙ ap (λ (k : ℕ). k == 0) none in
+    absurd (cc)
+member_parts g bytes (b ∷ bs) r e is fails = ap (λ (l : List ℕ). flat_map g l ++ flat_map g (codes ": ")) e ∙ sym (flat_map-append g (b ∷ bs) (codes ": "))
 
 -- four parts one after another, each of them escaped
 pub four_parts : (a b c d : List ℕ) → flat_map escaped a ++ (flat_map escaped b ++ (flat_map escaped c ++ flat_map escaped d)) ≡ flat_map escaped (a ++ (b ++ (c ++ d)))
