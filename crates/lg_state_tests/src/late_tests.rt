@@ -2,7 +2,7 @@
 
 ghost use Rattle.std.specs.Prelude.{◌≡◌, ◌<◌};
 
-use crate::trials::{Trial, amount, volumes};
+use crate::checked_index::{CheckedIndex, amount, volumes};
 use lg_base::Volumes;
 use lg_moves::MoveIndex;
 use lg_runs::Steps;
@@ -20,7 +20,7 @@ fn reads_back<L: Ledger>(rt: &impl Abort, alloc: Global, blank: Blank) -> Result
     requires some { 0 < L.parts }
 {
     let mut steps = Steps::<L>::new(blank);
-    let mut trial = Trial::new(alloc);
+    let mut checked = CheckedIndex::new(alloc);
     for i in 0u32..10_000 {
         let item = Move {
             transaction: u64::from(i),
@@ -29,12 +29,12 @@ fn reads_back<L: Ledger>(rt: &impl Abort, alloc: Global, blank: Blank) -> Result
             incoming: true,
             amount: amount(1)?,
         };
-        assert!(rt; trial.put(item, &mut steps)?);
+        assert!(rt; checked.put(item, &mut steps)?);
     }
     for i in 0u32..1_001 {
         let date = i * 10;
         assert_eq!(rt;
-            trial.index.at_effective(i64::from(date), &mut steps),
+            checked.index.at_effective(i64::from(date), &mut steps),
             volumes(u128::from(date), 0)
         );
     }
@@ -74,7 +74,7 @@ fn reads_mixed<L: Ledger>(rt: &impl Abort, alloc: Global, blank: Blank) -> Resul
     requires some { 0 < L.parts }
 {
     let mut steps = Steps::<L>::new(blank);
-    let mut trial = Trial::new(alloc);
+    let mut checked = CheckedIndex::new(alloc);
     for i in 0u32..600 {
         let item = Move {
             transaction: u64::from(i),
@@ -83,11 +83,11 @@ fn reads_mixed<L: Ledger>(rt: &impl Abort, alloc: Global, blank: Blank) -> Resul
             incoming: i % 3 != 0,
             amount: amount(u128::from(i % 7))?,
         };
-        assert!(rt; trial.put(item, &mut steps)?);
+        assert!(rt; checked.put(item, &mut steps)?);
     }
     for date in -1i64..202 {
         assert_eq!(rt;
-            trial.index.at_effective(date, &mut steps),
+            checked.index.at_effective(date, &mut steps),
             plain(600, date),
             "at {date}"
         );

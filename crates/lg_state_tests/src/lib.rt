@@ -4,6 +4,8 @@
 #[cfg(test)]
 mod book_tests;
 #[cfg(test)]
+mod checked_index;
+#[cfg(test)]
 mod history_tests;
 #[cfg(test)]
 mod key_tests;
@@ -15,5 +17,3 @@ mod move_tests;
 mod run_tests;
 #[cfg(test)]
 mod shard_tests;
-#[cfg(test)]
-mod trials;

@@ -2,7 +2,7 @@
 
 ghost use Rattle.std.specs.Prelude.{◌≡◌, ◌<◌};
 
-use crate::trials::{Trial, amount, volumes};
+use crate::checked_index::{CheckedIndex, amount, volumes};
 use lg_moves::MoveIndex;
 use lg_runs::Steps;
 use lg_types::Move;
@@ -14,8 +14,8 @@ use std::test::Fail;
 
 /// Eight moves: one dated back before all others, two of one posting, two into a tie, one of no amount, and one after
 /// all.
-fn worked<L: Ledger>(alloc: Global, steps: &mut Steps<L>) -> Result<Trial, Fail> {
-    let mut trial = Trial::new(alloc);
+fn worked<L: Ledger>(alloc: Global, steps: &mut Steps<L>) -> Result<CheckedIndex, Fail> {
+    let mut checked = CheckedIndex::new(alloc);
     for (transaction, inserted, effective, incoming, units) in [
         (1, 100, 100, true, 10),
         (2, 200, 200, false, 3),
@@ -33,11 +33,11 @@ fn worked<L: Ledger>(alloc: Global, steps: &mut Steps<L>) -> Result<Trial, Fail>
             incoming,
             amount: amount(units)?,
         };
-        if !trial.put(item, steps)? {
+        if !checked.put(item, steps)? {
             return Err(Fail::from("not applied"));
         }
     }
-    Ok(trial)
+    Ok(checked)
 }
 
 fn read_by_insertion<L: Ledger>(rt: &impl Abort, index: &MoveIndex, steps: &mut Steps<L>) {
@@ -152,13 +152,13 @@ fn reads_worked<L: Ledger>(rt: &impl Abort, alloc: Global, blank: Blank) -> Resu
     requires some { 0 < L.parts }
 {
     let mut steps = Steps::<L>::new(blank);
-    let trial = worked(alloc, &mut steps)?;
-    assert_eq!(rt; trial.index.total(), volumes(27, 5));
-    assert_eq!(rt; trial.index.len(), 8);
-    read_by_insertion(rt, &trial.index, &mut steps);
-    read_by_effect(rt, &trial.index, &mut steps);
-    read_by_rank(rt, &trial.index, &mut steps);
-    read_between(rt, &trial.index, &mut steps);
+    let checked = worked(alloc, &mut steps)?;
+    assert_eq!(rt; checked.index.total(), volumes(27, 5));
+    assert_eq!(rt; checked.index.len(), 8);
+    read_by_insertion(rt, &checked.index, &mut steps);
+    read_by_effect(rt, &checked.index, &mut steps);
+    read_by_rank(rt, &checked.index, &mut steps);
+    read_between(rt, &checked.index, &mut steps);
     Ok(())
 }
 

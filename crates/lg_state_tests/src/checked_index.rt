@@ -1,4 +1,4 @@
-//! Indexes of moves that are made one move after another.
+//! An index of moves that looks at each move before it takes it.
 
 ghost use Rattle.std.specs.Prelude.{◌≡◌, ◌+◌, ◌^◌, ◌<◌, true};
 ghost use Rattle.lg_types.specs.Tally.{amount_in, amount_out};
@@ -14,16 +14,16 @@ use std::test::Fail;
 
 /// An index that takes moves only where their conditions hold.
 #[derive(Drop)]
-pub struct Trial {
+pub struct CheckedIndex {
     pub index: MoveIndex,
     transaction: u64,
     inserted: i64,
 }
 
-impl Model for Trial {
+impl Model for CheckedIndex {
     ghost use Rattle.lg_runs.specs.Runs.{Kept};
     ghost use Rattle.lg_types.specs.declared.moves.Move.{Move};
-    ghost use Rattle.lg_state_tests.specs.Trial.{EndsBy};
+    ghost use Rattle.lg_state_tests.specs.LastMove.{EndsBy};
 
     ghost Value = { Kept Move };
 
@@ -32,10 +32,10 @@ impl Model for Trial {
     ghost invariant = { λ t. EndsBy t.index.items t.transaction t.inserted };
 }
 
-impl Trial {
+impl CheckedIndex {
     /// An index of no moves.
-    pub fn new(alloc: Global) -> Trial {
-        Trial {
+    pub fn new(alloc: Global) -> CheckedIndex {
+        CheckedIndex {
             index: MoveIndex::new(alloc),
             transaction: 0,
             inserted: 0,

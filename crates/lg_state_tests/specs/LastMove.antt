@@ -1,4 +1,4 @@
--- What a trial of an index keeps: what its last move was at most.
+-- What the last of some moves is at most.
 use Rattle.std.specs.Prelude.{ℕ, ℤ, ◌-◌, ◌<◌, ◌≤◌, ◌≤ℤ◌, List, length, slice_index_or}
 use Rattle.lg_types.specs.declared.moves.Move.{Move}
 
