@@ -1,0 +1,5 @@
+pub mod Bodies
+pub mod Messages
+pub mod Parts
+pub mod Places
+pub mod Texts
