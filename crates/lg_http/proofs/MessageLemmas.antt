@@ -59,7 +59,7 @@ module _ (limit : List ℕ → List ℕ → ℕ) (h : RequestHead) where
       let behind : size ≤ length (drop head.len bytes) = omega (arith, enough, length-drop head.len bytes) in
       let count : length (take size (drop head.len bytes)) ≡ size = length-take-le size (drop head.len bytes) behind in
       let parts : drop head.len bytes ≡ take size (drop head.len bytes) ++ drop (head.len + size) bytes =
-          sym (take-append-drop size (drop head.len bytes)) ∙ ap (λ (l : List ℕ). take size (drop head.len bytes) ++ l) (drop-drop size head.len bytes) in
+      sym (take-append-drop size (drop head.len bytes)) ∙ ap (λ (l : List ℕ). take size (drop head.len bytes) ++ l) (drop-drop size head.len bytes) in
       record {
         is = record {
           head = h;

@@ -1,12 +1,12 @@
 //! The lines of a reply's head.
 
-ghost use Rattle.std.specs.Prelude.{◌≡◌};
+ghost use Rattle.std.specs.Prelude.{◌≡◌, decimal};
 ghost use Rattle.lg_base.specs.Feeding.{Feeds};
 ghost use Rattle.lg_http.specs.Texts.{phrase_of, media_text, hit_line, status_line, content_lines, body_lines, count_lines, last_lines};
 
 use crate::media_type::MediaType;
-use crate::parts::{Part, feed_parts};
 use crate::reply_head::ReplyHead;
+use itoa::Buffer;
 use lg_base::{Feed, Stop};
 
 /// The reason phrase of a status.
@@ -29,20 +29,31 @@ fn phrase(status: u16) -> &'static [u8]
     }
 }
 
+/// Feeds a whole number in decimal.
+fn feed_decimal<F: Feed>(number: u64, to: &mut F) -> Result<(), Stop>
+    ensures { Feeds F.Feed to.old to.new (decimal number) result }
+{
+    let mut buffer = Buffer::new();
+    to.piece(buffer.format(number).as_bytes())
+}
+
+/// Feeds a status in decimal.
+fn feed_status<F: Feed>(status: u16, to: &mut F) -> Result<(), Stop>
+    ensures { Feeds F.Feed to.old to.new (decimal status) result }
+{
+    let mut buffer = Buffer::new();
+    to.piece(buffer.format(status).as_bytes())
+}
+
 /// Feeds the status line.
 pub(crate) fn feed_status_line<F: Feed>(status: u16, to: &mut F) -> Result<(), Stop>
     ensures { Feeds F.Feed to.old to.new (status_line status) result }
 {
-    feed_parts(
-        &[
-            Part::Plain(b"HTTP/1.1 "),
-            Part::Number(u64::from(status)),
-            Part::Plain(b" "),
-            Part::Plain(phrase(status)),
-            Part::Plain(b"\r\n"),
-        ],
-        to,
-    )
+    to.piece(b"HTTP/1.1 ")?;
+    feed_status(status, to)?;
+    to.piece(b" ")?;
+    to.piece(phrase(status))?;
+    to.piece(b"\r\n")
 }
 
 fn media_name(media: MediaType) -> &'static [u8]
@@ -62,17 +73,11 @@ pub(crate) fn feed_content_lines<F: Feed>(
 ) -> Result<(), Stop>
     ensures { Feeds F.Feed to.old to.new (content_lines media size) result }
 {
-    feed_parts(
-        &[
-            Part::Plain(b"Content-Type: "),
-            Part::Plain(media_name(media)),
-            Part::Plain(b"\r\n"),
-            Part::Plain(b"Content-Length: "),
-            Part::Number(size),
-            Part::Plain(b"\r\n"),
-        ],
-        to,
-    )
+    to.piece(b"Content-Type: ")?;
+    to.piece(media_name(media))?;
+    to.piece(b"\r\nContent-Length: ")?;
+    feed_decimal(size, to)?;
+    to.piece(b"\r\n")
 }
 
 /// Feeds the fields of a reply's body, where it has one.
@@ -85,7 +90,7 @@ pub(crate) fn feed_body_lines<F: Feed>(
 {
     match media {
         Some(media) => feed_content_lines(media, size, to),
-        None => feed_parts(&[], to),
+        None => to.piece(b""),
     }
 }
 
@@ -103,18 +108,12 @@ fn hit(is_hit: bool) -> &'static [u8]
 pub(crate) fn feed_count_lines<F: Feed>(head: &ReplyHead, to: &mut F) -> Result<(), Stop>
     ensures { Feeds F.Feed to.old to.new (count_lines head.now) result }
 {
-    feed_parts(
-        &[
-            Part::Plain(b"Ledger-Front: "),
-            Part::Number(head.front),
-            Part::Plain(b"\r\n"),
-            Part::Plain(b"Ledger-Events: "),
-            Part::Number(head.events),
-            Part::Plain(b"\r\n"),
-            Part::Plain(hit(head.hit)),
-        ],
-        to,
-    )
+    to.piece(b"Ledger-Front: ")?;
+    feed_decimal(head.front, to)?;
+    to.piece(b"\r\nLedger-Events: ")?;
+    feed_decimal(head.events, to)?;
+    to.piece(b"\r\n")?;
+    to.piece(hit(head.hit))
 }
 
 /// Feeds the end of a head.
