@@ -4,7 +4,7 @@ ghost use Rattle.std.specs.Prelude.{◌≡◌, ℕ, List, false, bytes_eq, codes
 ghost use Rattle.std.specs.Option.{option_map};
 ghost use Rattle.lg_codec.specs.Seen.{members_seen};
 ghost use Rattle.lg_json.specs.Tree.{tree};
-ghost use Rattle.lg_views.specs.Values as values;
+ghost use Rattle.lg_readings.specs.Values as values;
 
 use lg_json::{Json, Member, MemberList};
 use lg_routes::same_bytes;

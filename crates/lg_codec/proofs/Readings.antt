@@ -4,11 +4,11 @@ use Rattle.std.specs.Prelude.{Result, Ok, Err, Bool, true, false, ◌==◌}
 use Rattle.std.specs.Result.{IsErrAnd}
 use Rattle.lg_types.specs.declared.refusals.Refusal.{Refusal}
 use Rattle.std.specs.Prelude.{Some}
-use Rattle.lg_views.specs.Answers.{Answer, wrong, Then, IfForm, known, gives}
+use Rattle.lg_readings.specs.Answers.{Answer, wrong, Then, IfForm, known, gives}
 use Rattle.lg_codec.specs.Results.{Reads}
-use Rattle.lg_views.specs.Paths.{Path}
-use Rattle.lg_views.specs.Values.{SomeName}
-use Rattle.lg_views.specs.Bodies.{no_members}
+use Rattle.lg_readings.specs.Paths.{Path}
+use Rattle.lg_readings.specs.Values.{SomeName}
+use Rattle.lg_readings.specs.Bodies.{no_members}
 use Rattle.lg_json.specs.Tree.{Members}
 use Rattle.lg_json.specs.declared.json.Member.{Member}
 use Rattle.lg_types.specs.declared.refusals.Reason.TheVariants.{Form}

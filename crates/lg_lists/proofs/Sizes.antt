@@ -10,8 +10,8 @@ use Rattle.lg_codec.specs.Stops.{StopsWith}
 use Rattle.lg_codec.specs.declared.stop.CodecStop.{CodecStop}
 use Rattle.lg_lists.specs.Numbers.{SizeIn}
 use Rattle.lg_types.specs.declared.refusals.Refusal.TheVariants.{Parameter as ParameterRefusal}
-use Rattle.lg_views.specs.Parameters.{IsNumberText, PageSize, bad_parameter}
-use Rattle.lg_views.specs.Targets.{Parameter, first_value}
+use Rattle.lg_readings.specs.Parameters.{IsNumberText, PageSize, bad_parameter}
+use Rattle.lg_readings.specs.Targets.{Parameter, first_value}
 
 none_of : (x : ℕ) → 0 ≡ min x 100 → ¬ (1 ≤ x)
 none_of x is some = ⊎_elim

@@ -4,10 +4,10 @@ use Rattle.lg_types.specs.declared.filters.Filter.{All}
 use Rattle.lg_types.specs.declared.filters.ListKind.{ListKind}
 use Rattle.lg_types.specs.declared.filters.ListKind.TheVariants as kind
 use Rattle.lg_types.specs.declared.queries.Query.{Query}
-use Rattle.lg_views.specs.Answers.{Answer, known, gives, ◌>>=◌}
-use Rattle.lg_views.specs.Parameters.{MomentParameter, truth_parameter, PageSize, GroupBy, expand_parameter, no_order}
-use Rattle.lg_views.specs.Requests.{Body, FilterBody, first_page, no_expand, no_span}
-use Rattle.lg_views.specs.Targets.{Parameter}
+use Rattle.lg_readings.specs.Answers.{Answer, known, gives, ◌>>=◌}
+use Rattle.lg_readings.specs.Parameters.{MomentParameter, truth_parameter, PageSize, GroupBy, expand_parameter, no_order}
+use Rattle.lg_readings.specs.Requests.{Body, FilterBody, first_page, no_expand, no_span}
+use Rattle.lg_readings.specs.Targets.{Parameter}
 
 abbrev pub FirstLedgers : List Parameter → Answer Query → Type 0
 FirstLedgers ps =

@@ -5,7 +5,7 @@ ghost use Rattle.lg_codec.specs.Results.{Reads};
 ghost use Rattle.lg_lists.specs.FirstPages.{FirstLedgers, FirstItems, FirstLogs, FirstVolumes};
 ghost use Rattle.lg_routes.specs.Body.{body_seen};
 ghost use Rattle.lg_routes.specs.Seen.{parameters_seen};
-ghost use Rattle.lg_views.specs.Requests as requests;
+ghost use Rattle.lg_readings.specs.Requests as requests;
 
 use crate::number_parameters::{group_by, page_size};
 use lg_codec::CodecStop;

@@ -4,7 +4,7 @@ ghost use Rattle.std.specs.Prelude.{Some};
 ghost use Rattle.lg_codec.specs.Results.{Reads};
 ghost use Rattle.lg_lists.specs.Numbers.{SizeIn, GroupIn};
 ghost use Rattle.lg_routes.specs.Seen.{parameters_seen};
-ghost use Rattle.lg_views.specs.Parameters as values;
+ghost use Rattle.lg_readings.specs.Parameters as values;
 
 use crate::numbers::number_up_to;
 use lg_codec::CodecStop;

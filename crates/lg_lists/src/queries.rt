@@ -3,7 +3,7 @@
 ghost use Rattle.lg_codec.specs.Results.{Reads};
 ghost use Rattle.lg_routes.specs.Body.{body_seen};
 ghost use Rattle.lg_routes.specs.Seen.{parameters_seen};
-ghost use Rattle.lg_views.specs.Requests as requests;
+ghost use Rattle.lg_readings.specs.Requests as requests;
 
 use crate::first_pages::{first_items, first_ledgers, first_logs, first_volumes};
 use lg_codec::CodecStop;

@@ -6,7 +6,7 @@ use Rattle.std.proofs.lemmas.Slice.Eq.{bytes_eq-Decides}
 use Rattle.std.proofs.lemmas.List.{drop_more, drop_all}
 use Rattle.std.proofs.lemmas.Grind.{common_steps}
 use Rattle.std.proofs.lemmas.Bool.{false≢true, cases_lt}
-use Rattle.lg_views.specs.Routes.{Segment, Word, Named, Route, fits_path, segment_fits, names_in, name_at, has_path, has_method, routes}
+use Rattle.lg_readings.specs.Routes.{Segment, Word, Named, Route, fits_path, segment_fits, names_in, name_at, has_path, has_method, routes}
 use Rattle.lg_routes.specs.Table.{segments_of, name_places, segment_at, names_of, HasNamesOf}
 
 -- where the names of a pattern stand, whose first segment stands at a place

@@ -2,7 +2,7 @@
 use Rattle.std.proofs.Common.{◌≡◌, ℕ, ◌+◌, ◌<◌, Bool, true, false, ◌&&◌, cond, List, [], ◌∷◌, map, length, Option, Some, None, refl, ap, sym, subst, ◌∙◌, arith}
 use Rattle.std.specs.List.{find, filter, list_all}
 use Rattle.std.proofs.lemmas.Grind.{common_steps}
-use Rattle.lg_views.specs.Routes as views
+use Rattle.lg_readings.specs.Routes as views
 use Rattle.lg_routes.specs.Table.{found_in}
 
 and_false : (b : Bool) → (b && false) ≡ false

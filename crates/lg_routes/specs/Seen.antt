@@ -7,8 +7,8 @@ use Rattle.std.specs.Option.{option_map}
 use Rattle.std.specs.declared.borrow.CowSlice.{CowSlice}
 use Rattle.form_urlencoded.specs.Form.{is_nonempty}
 use Rattle.percent_encoding.specs.Percent.{percent_decode}
-use Rattle.lg_views.specs.Targets.{is_slash}
-use Rattle.lg_views.specs.Targets as targets
+use Rattle.lg_readings.specs.Targets.{is_slash}
+use Rattle.lg_readings.specs.Targets as targets
 use Rattle.lg_routes.specs.declared.parameters.Parameter.{Parameter}
 
 -- decoded segments

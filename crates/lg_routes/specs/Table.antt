@@ -1,7 +1,7 @@
 -- The table of the routes, and where the names of a path stand.
 use Rattle.std.specs.Prelude.{◌≡◌, ℕ, Bool, true, false, ◌==◌, ◌&&◌, ◌+◌, List, [], ◌∷◌, map, length, Option, Some, None, get_or}
 use Rattle.std.specs.List.{find}
-use Rattle.lg_views.specs.Routes as views
+use Rattle.lg_readings.specs.Routes as views
 use Rattle.lg_routes.specs.declared.table.Row.{Row}
 use Rattle.lg_routes.specs.declared.table.Row.TheVariants as rows
 use Rattle.lg_routes.specs.declared.table.Pattern.{Pattern}

@@ -4,9 +4,9 @@ ghost use Rattle.std.specs.Prelude.{◌≡◌, ◌<◌, Some, length, map, IfOk}
 ghost use Rattle.std.specs.Option.{option_map};
 ghost use Rattle.form_urlencoded.specs.Form as form;
 ghost use Rattle.lg_codec.specs.Results.{Reads};
-ghost use Rattle.lg_views.specs.Requests as requests;
-ghost use Rattle.lg_views.specs.Routes.{routes_at};
-ghost use Rattle.lg_views.specs.Targets as targets;
+ghost use Rattle.lg_readings.specs.Requests as requests;
+ghost use Rattle.lg_readings.specs.Routes.{routes_at};
+ghost use Rattle.lg_readings.specs.Targets as targets;
 ghost use Rattle.lg_routes.specs.Seen.{segments_seen, parameters_seen, bytes_seen};
 ghost use Rattle.lg_routes.specs.Table.{row_seen, segments_of, names_of, segment_at};
 ghost use Rattle.lg_routes.specs.Body.{body_seen};

@@ -2,7 +2,7 @@
 
 ghost use Rattle.std.specs.Prelude.{◌≡◌, Some, IfOk};
 ghost use Rattle.std.specs.Option.{option_map};
-ghost use Rattle.lg_views.specs.Routes as routes;
+ghost use Rattle.lg_readings.specs.Routes as routes;
 ghost use Rattle.lg_routes.specs.Seen.{segments_seen};
 ghost use Rattle.lg_routes.specs.Table.{row_seen, found_in};
 ghost use Rattle.lg_routes.specs.declared.body.BodyKind.TheVariants.{Lines};

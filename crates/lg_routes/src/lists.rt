@@ -3,7 +3,7 @@
 ghost use Rattle.lg_codec.specs.Results.{Reads};
 ghost use Rattle.lg_types.specs.declared.filters.ListKind.TheVariants as kind;
 ghost use Rattle.lg_types.specs.declared.queries.Read.TheVariants as read;
-ghost use Rattle.lg_views.specs.Requests as requests;
+ghost use Rattle.lg_readings.specs.Requests as requests;
 ghost use Rattle.lg_routes.specs.Body.{body_seen};
 ghost use Rattle.lg_routes.specs.Lists.{QueryOf, HasPages, LedgersCall};
 ghost use Rattle.lg_routes.specs.Seen.{parameters_seen};

@@ -2,7 +2,7 @@
 
 ghost use Rattle.std.specs.Prelude.{◌≡◌, Some, map};
 ghost use Rattle.std.specs.List.{filter};
-ghost use Rattle.lg_views.specs.Routes as routes;
+ghost use Rattle.lg_readings.specs.Routes as routes;
 ghost use Rattle.lg_routes.specs.Seen.{segments_seen};
 ghost use Rattle.lg_routes.specs.Table.{pattern_seen, route_seen, found_in, match_seen, MatchHasNames};
 

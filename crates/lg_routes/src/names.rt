@@ -1,8 +1,8 @@
 //! The names of a path, and the key.
 
 ghost use Rattle.std.specs.Prelude.{◌≡◌, Some};
-ghost use Rattle.lg_views.specs.Answers.{IfForm};
-ghost use Rattle.lg_views.specs.Requests as requests;
+ghost use Rattle.lg_readings.specs.Answers.{IfForm};
+ghost use Rattle.lg_readings.specs.Requests as requests;
 ghost use Rattle.lg_codec.specs.Results.{Reads};
 ghost use Rattle.lg_routes.specs.Names.{TargetNamed};
 ghost use Rattle.lg_routes.specs.Seen.{bytes_seen};

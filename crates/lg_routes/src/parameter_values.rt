@@ -2,8 +2,8 @@
 
 ghost use Rattle.std.specs.Prelude.{◌≡◌, Some, map, bytes_eq};
 ghost use Rattle.std.specs.Char.{to_ascii_lowercase};
-ghost use Rattle.lg_views.specs.Answers.{known};
-ghost use Rattle.lg_views.specs.Parameters as values;
+ghost use Rattle.lg_readings.specs.Answers.{known};
+ghost use Rattle.lg_readings.specs.Parameters as values;
 ghost use Rattle.lg_codec.specs.Results.{Reads};
 ghost use Rattle.lg_routes.specs.Seen.{parameters_seen, bytes_seen};
 

@@ -2,8 +2,8 @@
 
 ghost use Rattle.std.specs.Prelude.{◌≡◌, map, IfOk};
 ghost use Rattle.form_urlencoded.specs.Form as form;
-ghost use Rattle.lg_views.specs.Parameters as values;
-ghost use Rattle.lg_views.specs.Targets as targets;
+ghost use Rattle.lg_readings.specs.Parameters as values;
+ghost use Rattle.lg_readings.specs.Targets as targets;
 ghost use Rattle.lg_routes.specs.Seen.{parameters_seen, bytes_seen};
 
 use crate::bytes::same_bytes;

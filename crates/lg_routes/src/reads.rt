@@ -1,7 +1,7 @@
 //! Calls that read one thing of a ledger.
 
 ghost use Rattle.lg_codec.specs.Results.{Reads};
-ghost use Rattle.lg_views.specs.Requests as requests;
+ghost use Rattle.lg_readings.specs.Requests as requests;
 ghost use Rattle.lg_routes.specs.Seen.{parameters_seen};
 
 use crate::names::{address_named, id_named, ledger_named};

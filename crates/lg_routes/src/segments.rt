@@ -3,7 +3,7 @@
 ghost use Rattle.std.specs.Prelude.{◌≡◌, ◌<◌, ◌==◌, ◌∷◌, [], Some, None, length, position, IfOk, MatchOption};
 ghost use Rattle.std.specs.List.{slice_split};
 ghost use Rattle.std.specs.Option.{option_map};
-ghost use Rattle.lg_views.specs.Targets as targets;
+ghost use Rattle.lg_readings.specs.Targets as targets;
 ghost use Rattle.lg_routes.specs.Seen.{segments_seen, decoded};
 
 use lg_base::NoMemory;

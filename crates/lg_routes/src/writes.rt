@@ -1,10 +1,10 @@
 //! Calls that write.
 
 ghost use Rattle.std.specs.Prelude.{◌&&◌, codes};
-ghost use Rattle.lg_views.specs.Answers.{known};
-ghost use Rattle.lg_views.specs.Parameters.{unless_true};
+ghost use Rattle.lg_readings.specs.Answers.{known};
+ghost use Rattle.lg_readings.specs.Parameters.{unless_true};
 ghost use Rattle.lg_codec.specs.Results.{Reads};
-ghost use Rattle.lg_views.specs.Requests as requests;
+ghost use Rattle.lg_readings.specs.Requests as requests;
 ghost use Rattle.lg_routes.specs.Body.{body_seen};
 ghost use Rattle.lg_routes.specs.Seen.{parameters_seen, bytes_seen};
 ghost use Rattle.lg_routes.specs.Names.{TargetNamed};

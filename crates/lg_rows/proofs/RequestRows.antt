@@ -6,7 +6,7 @@ use Rattle.lg_types.specs.declared.calls.Call.TheVariants as call
 use Rattle.lg_types.specs.declared.queries.Read.TheVariants as read
 use Rattle.lg_types.specs.declared.refusals.Refusal.{Refusal}
 use Rattle.lg_types.specs.declared.refusals.Refusal.TheVariants.{NoRoute, Method, NoPostings, Script}
-use Rattle.lg_views.specs.Answers.{Answer, Then}
+use Rattle.lg_readings.specs.Answers.{Answer, Then}
 use Rattle.lg_rows.specs.RequestRows.{computed, no_postings, script, NowhereAsked, EmptyNameAsked, MethodAsked, NoPostingsAsked, ScriptAsked, StatsAsked, TwoOperators, NestedFault}
 
 -- a reading that gives a value and goes on, and one that refuses

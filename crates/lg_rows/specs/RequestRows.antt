@@ -12,9 +12,9 @@ use Rattle.lg_types.specs.declared.calls.Call.TheVariants as call
 use Rattle.lg_types.specs.declared.filters.ListKind.TheVariants as kind
 use Rattle.lg_types.specs.declared.queries.Read.TheVariants as read
 use Rattle.lg_types.specs.declared.refusals.Refusal.TheVariants.{NoRoute, Method, NoPostings, Script}
-use Rattle.lg_views.specs.FilterReadings.{one, FilterFault}
-use Rattle.lg_views.specs.Paths.{top}
-use Rattle.lg_views.specs.Requests.{Body, NoBody, ValueBody, IsRequest}
+use Rattle.lg_readings.specs.FilterReadings.{one, FilterFault}
+use Rattle.lg_readings.specs.Paths.{top}
+use Rattle.lg_readings.specs.Requests.{Body, NoBody, ValueBody, IsRequest}
 
 -- all that is unfolded where a request is computed
 unfoldable pub computed : Unit {0}

@@ -15,7 +15,7 @@ use Rattle.lg_types.specs.declared.filters.After.TheVariants.{Place, Address as 
 use Rattle.lg_types.specs.declared.filters.Filter.{Filter, All, Compare, Has, Both', Either', Not'}
 use Rattle.lg_types.specs.declared.queries.Query.{Query}
 use Rattle.lg_types.specs.declared.queries.Span.{Span}
-use Rattle.lg_views.specs.TokenReadings.{IsPlaceOf, IsDate, IsPit, IsSpan, IsPageQuery}
+use Rattle.lg_readings.specs.TokenReadings.{IsPlaceOf, IsDate, IsPit, IsSpan, IsPageQuery}
 use Rattle.lg_views.specs.Tokens.{kind_name, filter_text, filter_member, after_text, pit_text, start_text, end_text, expand_text, token_text, token}
 use Rattle.lg_entry_lines.proofs.Names.{address_utf8, asset_utf8}
 use Rattle.lg_tokens.specs.Laws.{Decodes}

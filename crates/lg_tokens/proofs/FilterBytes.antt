@@ -14,7 +14,7 @@ use Rattle.lg_types.specs.declared.filters.Field.TheVariants as field
 use Rattle.lg_types.specs.declared.filters.Value.{Value}
 use Rattle.lg_types.specs.declared.filters.Value.TheVariants as value
 use Rattle.lg_types.specs.declared.filters.Filter.{Filter, All, Compare, Has, Both', Either', Not', Row_of-Filter, end_of-Filter, more_of-Filter}
-use Rattle.lg_views.specs.FilterReadings.{one, IsComparison, IsFieldInGrammar, IsFilter, AreFilters, ShowsText, ShowsWhole, ShowsMoment, ShowsTruth, ShowsValue}
+use Rattle.lg_readings.specs.FilterReadings.{one, IsComparison, IsFieldInGrammar, IsFilter, AreFilters, ShowsText, ShowsWhole, ShowsMoment, ShowsTruth, ShowsValue}
 use Rattle.lg_views.specs.Tokens.{op_name, field_name, in_brackets, whole_text, value_text, one_member, filter_text, filters_text, after_commas}
 use Rattle.lg_entry_lines.proofs.Names.{asset_utf8}
 use Rattle.lg_tokens.proofs.Bytes.{AreBytes, literal, both, together, byte_first, quoted_bytes, member_bytes, utf8_bytes, decimal_bytes, wide_bytes, date_bytes}

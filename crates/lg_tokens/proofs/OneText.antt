@@ -16,7 +16,7 @@ use Rattle.lg_types.specs.declared.filters.Field.TheVariants as field
 use Rattle.lg_types.specs.declared.filters.Value.{Value}
 use Rattle.lg_types.specs.declared.filters.Value.TheVariants as value
 use Rattle.lg_types.specs.declared.filters.Filter.{Filter, All, Compare, Has, Both', Either', Not', Row_of-Filter, end_of-Filter, more_of-Filter}
-use Rattle.lg_views.specs.FilterReadings.{one, IsComparison, IsFilter, AreFilters, ShowsText, ShowsWhole, ShowsMoment, ShowsTruth, ShowsValue}
+use Rattle.lg_readings.specs.FilterReadings.{one, IsComparison, IsFilter, AreFilters, ShowsText, ShowsWhole, ShowsMoment, ShowsTruth, ShowsValue}
 use Rattle.lg_views.specs.Tokens.{op_name, field_name, value_text, one_member, filter_text, filters_text, after_commas}
 
 -- ---- what stands in an object of one member

@@ -13,7 +13,7 @@ use Rattle.lg_types.specs.declared.filters.Op.{Op}
 use Rattle.lg_types.specs.declared.filters.Field.{Field}
 use Rattle.lg_types.specs.declared.filters.Value.{Value}
 use Rattle.lg_types.specs.declared.filters.Filter.{Filter, All, Compare, Has, Both', Either', Not', Row_of-Filter, end_of-Filter, more_of-Filter}
-use Rattle.lg_views.specs.FilterReadings.{one, IsComparison, IsFilter, AreFilters, ShowsValue}
+use Rattle.lg_readings.specs.FilterReadings.{one, IsComparison, IsFilter, AreFilters, ShowsValue}
 use Rattle.lg_views.specs.Tokens.{op_name, field_name, value_text, one_member, filter_text, filters_text}
 use Rattle.lg_entry_lines.proofs.Strings.{text_is_string, literal_is_string}
 use Rattle.lg_tokens.specs.Laws.{IsSpelled}

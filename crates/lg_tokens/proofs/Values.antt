@@ -14,7 +14,7 @@ use Rattle.lg_types.specs.declared.filters.Field.{Field}
 use Rattle.lg_types.specs.declared.filters.Field.TheVariants as field
 use Rattle.lg_types.specs.declared.filters.Value.{Value}
 use Rattle.lg_types.specs.declared.filters.Value.TheVariants as value
-use Rattle.lg_views.specs.FilterReadings.{one, IsFieldInGrammar, ShowsText, ShowsWhole, ShowsMoment, ShowsTruth, ShowsValue}
+use Rattle.lg_readings.specs.FilterReadings.{one, IsFieldInGrammar, ShowsText, ShowsWhole, ShowsMoment, ShowsTruth, ShowsValue}
 use Rattle.lg_views.specs.Tokens.{op_name, field_name, in_brackets, value_text, one_member}
 use Rattle.lg_entry_lines.proofs.Strings.{text_is_string, literal_is_string, plain_utf8, plain_parts_of, all_plain}
 use Rattle.lg_entry_lines.proofs.Names.{asset_utf8}

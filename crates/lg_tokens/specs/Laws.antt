@@ -12,8 +12,8 @@ use Rattle.lg_types.specs.declared.filters.ListKind.{ListKind}
 use Rattle.lg_types.specs.declared.filters.After.{After}
 use Rattle.lg_types.specs.declared.filters.Filter.{Filter}
 use Rattle.lg_types.specs.declared.queries.Query.{Query}
-use Rattle.lg_views.specs.FilterReadings.{IsFilter}
-use Rattle.lg_views.specs.TokenReadings.{IsPageQuery}
+use Rattle.lg_readings.specs.FilterReadings.{IsFilter}
+use Rattle.lg_readings.specs.TokenReadings.{IsPageQuery}
 use Rattle.lg_views.specs.Tokens.{filter_text, token_text, token}
 
 -- ---- filters

@@ -4,7 +4,7 @@ ghost use Rattle.std.specs.Prelude.{◌≡◌, List, ℕ, ◌∷◌, ◌++◌, M
 ghost use Rattle.lg_json.specs.Tree.{Tree, tree};
 ghost use Rattle.lg_json.specs.Grammar.{Fits, IsJson};
 ghost use Rattle.lg_types.specs.declared.filters.Filter.{Filter};
-ghost use Rattle.lg_views.specs.FilterReadings.{IsFilter};
+ghost use Rattle.lg_readings.specs.FilterReadings.{IsFilter};
 ghost use Rattle.lg_views.specs.Tokens.{filter_text, filter_member};
 ghost use Rattle.lg_tokens.specs.Parts.{Lacks, IsShown};
 

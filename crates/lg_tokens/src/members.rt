@@ -3,7 +3,7 @@
 ghost use Rattle.std.specs.Prelude.{◌≡◌, ◌≢◌, List, ℕ, ℤ, Bool, Option, ◌<◌, ◌^◌, ◌∷◌, ◌++◌, MatchOption, IfSome, decimal, codes};
 ghost use Rattle.lg_time.specs.Moment.{IsInMoments};
 ghost use Rattle.lg_types.specs.PartTexts.{date_text};
-ghost use Rattle.lg_views.specs.TokenReadings.{IsDate};
+ghost use Rattle.lg_readings.specs.TokenReadings.{IsDate};
 ghost use Rattle.lg_views.specs.Tokens.{expand_text};
 ghost use Rattle.lg_tokens.specs.Parts.{Lacks, IsOther, dated, insertion_text, group_text};
 

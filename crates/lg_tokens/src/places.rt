@@ -5,7 +5,7 @@ ghost use Rattle.lg_types.specs.declared.filters.After.{After};
 ghost use Rattle.lg_types.specs.declared.filters.After.TheVariants.{Pair};
 ghost use Rattle.lg_types.specs.declared.filters.ListKind.TheVariants.{Ledgers, Accounts, Volumes};
 ghost use Rattle.lg_views.specs.Tokens.{after_text};
-ghost use Rattle.lg_views.specs.TokenReadings.{IsPlaceOf};
+ghost use Rattle.lg_readings.specs.TokenReadings.{IsPlaceOf};
 ghost use Rattle.lg_tokens.specs.Parts.{Lacks, place_text};
 ghost use Rattle.lg_containers.specs.AddressGrammar.{IsAddress};
 ghost use Rattle.lg_containers.specs.AssetGrammar.{IsAsset};

@@ -5,7 +5,7 @@ ghost use Rattle.lg_types.specs.declared.filters.After.{After};
 ghost use Rattle.lg_types.specs.declared.queries.Query.{Query};
 ghost use Rattle.lg_codec.specs.Results.{Reads};
 ghost use Rattle.lg_types.specs.declared.refusals.Refusal.TheVariants.{Token};
-ghost use Rattle.lg_views.specs.TokenReadings.{IsPageQuery, IsTokenOf, TokenQuery};
+ghost use Rattle.lg_readings.specs.TokenReadings.{IsPageQuery, IsTokenOf, TokenQuery};
 ghost use Rattle.lg_views.specs.Tokens.{token};
 
 use crate::decoding::decode;

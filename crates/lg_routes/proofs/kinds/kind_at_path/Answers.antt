@@ -1,7 +1,7 @@
 use Rattle.std.proofs.Common.{◌≡◌, ℕ, List, Option, Vec, Global, ap}
 use Rattle.std.specs.Prelude.{IfOk}
 use Rattle.std.specs.declared.borrow.CowSlice.{CowSlice}
-use Rattle.lg_views.specs.Routes as routes
+use Rattle.lg_readings.specs.Routes as routes
 use Rattle.lg_routes.specs.Seen.{segments_seen}
 use Rattle.lg_routes.specs.Table.{found_in}
 use Rattle.lg_routes.specs.Calls.{kind_found, recomputes_in}

@@ -1,5 +1,5 @@
 use Rattle.std.proofs.Common.{◌≡◌, map, drop, length}
-use Rattle.lg_views.specs.Routes as routes
+use Rattle.lg_readings.specs.Routes as routes
 use Rattle.lg_routes.specs.Seen.{segments_seen}
 use Rattle.lg_routes.specs.Table.{pattern_seen}
 use Rattle.lg_routes.proofs.matching.fits_path.Given as goal

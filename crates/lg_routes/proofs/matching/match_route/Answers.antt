@@ -1,6 +1,6 @@
 use Rattle.std.proofs.Common.{◌≡◌, ℕ, List, [], ◌∷◌, Option, Some, sym}
 use Rattle.std.specs.List.{filter, find}
-use Rattle.lg_views.specs.Routes as views
+use Rattle.lg_readings.specs.Routes as views
 use Rattle.lg_routes.specs.declared.matching.RouteMatch.{RouteMatch}
 use Rattle.lg_routes.specs.declared.matching.RouteMatch.TheVariants.{Found, NoMethod, NoPath}
 use Rattle.lg_routes.specs.Seen.{segments_seen}

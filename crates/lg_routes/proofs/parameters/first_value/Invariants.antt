@@ -1,5 +1,5 @@
 use Rattle.std.proofs.Common.{◌≡◌, drop}
-use Rattle.lg_views.specs.Targets as targets
+use Rattle.lg_readings.specs.Targets as targets
 use Rattle.lg_routes.specs.Seen.{parameters_seen}
 use Rattle.lg_routes.proofs.parameters.first_value.Given as goal
 

@@ -1,7 +1,7 @@
 use Rattle.std.proofs.Common.{◌≡◌, map, ◌++◌}
 use Rattle.form_urlencoded.specs.Form as form
 use Rattle.form_urlencoded.specs.Parse.{pairs_left}
-use Rattle.lg_views.specs.Targets as targets
+use Rattle.lg_readings.specs.Targets as targets
 use Rattle.lg_routes.specs.Seen.{parameters_seen}
 use Rattle.lg_routes.proofs.parameters.read_parameters.Given as goal
 

@@ -1,5 +1,5 @@
 use Rattle.std.proofs.Common.{◌==◌, ℕ, sym, ◌∙◌, length, arith}
-use Rattle.lg_views.specs.Targets.{is_slash}
+use Rattle.lg_readings.specs.Targets.{is_slash}
 use Rattle.lg_routes.proofs.Pieces.{cut_at, cut_none, within}
 use Rattle.std.proofs.lemmas.Grind.{common_steps}
 use Rattle.lg_routes.proofs.segments.cut_piece.Goals as goal

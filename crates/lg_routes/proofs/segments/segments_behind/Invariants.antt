@@ -1,7 +1,7 @@
 use Rattle.std.proofs.Common.{◌≡◌, ◌++◌}
 use Rattle.std.specs.List.{slice_split}
 use Rattle.std.specs.Option.{option_map}
-use Rattle.lg_views.specs.Targets as targets
+use Rattle.lg_readings.specs.Targets as targets
 use Rattle.lg_routes.specs.Seen.{segments_seen, decoded, pieces_left, left_size}
 use Rattle.lg_routes.proofs.segments.segments_behind.Given as goal
 

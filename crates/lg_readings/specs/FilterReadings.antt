@@ -17,8 +17,8 @@ use Rattle.lg_types.specs.declared.filters.Value.{Value}
 use Rattle.lg_types.specs.declared.filters.Value.TheVariants as value
 use Rattle.lg_types.specs.declared.filters.Filter.{Filter, All, Compare, Has, Both', Either', Not', Row_of-Filter, end_of-Filter, more_of-Filter}
 use Rattle.lg_types.specs.declared.refusals.Refusal.TheVariants.{BadFilter}
-use Rattle.lg_views.specs.Answers.{Answer}
-use Rattle.lg_views.specs.Paths.{Path, top, below, at_item, path_text}
+use Rattle.lg_readings.specs.Answers.{Answer}
+use Rattle.lg_readings.specs.Paths.{Path, top, below, at_item, path_text}
 use Rattle.lg_views.specs.Tokens.{op_name, field_name}
 
 -- an object of one member

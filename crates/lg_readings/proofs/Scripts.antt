@@ -12,11 +12,11 @@ use Rattle.lg_types.specs.declared.refusals.Refusal.TheVariants.{LineMember}
 use Rattle.lg_types.specs.Lists.{Each, Pairs}
 use Rattle.lg_types.proofs.Eachs.{each-map}
 use Rattle.lg_views.specs.declared.lines.ScriptLine.{ScriptLine}
-use Rattle.lg_views.specs.Answers.{Answer, Then, GoesOn}
-use Rattle.lg_views.specs.Checked.{has_bytes}
-use Rattle.lg_views.specs.Script.{LineContent, ContentIn, ContentBy, LineAnswer, between, number_member, bad_member, line_of, AreScript, script_lines}
-use Rattle.lg_views.specs.Values.{under}
-use Rattle.lg_views.specs.ReadingLaws.{IsWithinCounts, IsLaterLine, ScriptsInOrder}
+use Rattle.lg_readings.specs.Answers.{Answer, Then, GoesOn}
+use Rattle.lg_readings.specs.Checked.{has_bytes}
+use Rattle.lg_readings.specs.Script.{LineContent, ContentIn, ContentBy, LineAnswer, between, number_member, bad_member, line_of, AreScript, script_lines}
+use Rattle.lg_readings.specs.Values.{under}
+use Rattle.lg_readings.specs.ReadingLaws.{IsWithinCounts, IsLaterLine, ScriptsInOrder}
 use Rattle.lg_views.proofs.Walks.{pairs-filter}
 
 -- ---- readings

@@ -6,8 +6,8 @@ use Rattle.std.specs.Str.Parse.{digits_value}
 use Rattle.lg_time.specs.Moment.{IsMoment}
 use Rattle.lg_types.specs.declared.queries.Expand.{Expand}
 use Rattle.lg_types.specs.declared.refusals.Refusal.TheVariants.{Parameter as ParameterRefusal}
-use Rattle.lg_views.specs.Answers.{Answer, known, ◌>>=◌}
-use Rattle.lg_views.specs.Targets.{Parameter, first_value, all_values}
+use Rattle.lg_readings.specs.Answers.{Answer, known, ◌>>=◌}
+use Rattle.lg_readings.specs.Targets.{Parameter, first_value, all_values}
 
 abbrev pub bad_parameter : {A : Type 0} → List ℕ → Answer A
 bad_parameter name = Err (ParameterRefusal name)

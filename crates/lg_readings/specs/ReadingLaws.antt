@@ -4,9 +4,9 @@ use Rattle.lg_types.specs.declared.calls.Batch.TheVariants.{Ready}
 use Rattle.lg_types.specs.declared.records.Entry.{Entry}
 use Rattle.lg_types.specs.Lists.{Each, Pairs}
 use Rattle.lg_views.specs.declared.lines.ScriptLine.{ScriptLine}
-use Rattle.lg_views.specs.Checked.{IsChecked}
+use Rattle.lg_readings.specs.Checked.{IsChecked}
 use Rattle.lg_views.specs.Import.{IsImportable}
-use Rattle.lg_views.specs.Script.{IsScript}
+use Rattle.lg_readings.specs.Script.{IsScript}
 
 -- at most 64 callers and a million phases
 pub record IsWithinCounts (l : ScriptLine) : Type 0 where

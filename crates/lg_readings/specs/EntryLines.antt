@@ -15,14 +15,14 @@ use Rattle.lg_types.specs.declared.records.KeyMark.{KeyMark}
 use Rattle.lg_types.specs.declared.records.Posting.{Posting}
 use Rattle.lg_types.specs.declared.records.Transaction.{Transaction}
 use Rattle.lg_types.specs.declared.refusals.Reason.TheVariants.{Missing, Kind, Form}
-use Rattle.lg_views.specs.Paths.{Path, top, below}
-use Rattle.lg_views.specs.Answers.{Answer, wrong, known, gives, ◌>>=◌}
-use Rattle.lg_views.specs.Values.{under, text_of, members_of, id_of, Name, OptionalName, Moment}
-use Rattle.lg_views.specs.Bodies.{texts_of, Accounts, WithPostings}
-use Rattle.lg_views.specs.Elements.{data_path, TargetIn}
-use Rattle.lg_views.specs.declared.readings.ReadEntry.{ReadEntry}
-use Rattle.lg_views.specs.declared.readings.EntryType.{EntryType}
-use Rattle.lg_views.specs.declared.readings.EntryType.TheVariants as types
+use Rattle.lg_readings.specs.Paths.{Path, top, below}
+use Rattle.lg_readings.specs.Answers.{Answer, wrong, known, gives, ◌>>=◌}
+use Rattle.lg_readings.specs.Values.{under, text_of, members_of, id_of, Name, OptionalName, Moment}
+use Rattle.lg_readings.specs.Bodies.{texts_of, Accounts, WithPostings}
+use Rattle.lg_readings.specs.Elements.{data_path, TargetIn}
+use Rattle.lg_readings.specs.declared.readings.ReadEntry.{ReadEntry}
+use Rattle.lg_readings.specs.declared.readings.EntryType.{EntryType}
+use Rattle.lg_readings.specs.declared.readings.EntryType.TheVariants as types
 
 -- ---- hashes: 32 bytes in base64 with padding (RFC 4648, section 4)
 

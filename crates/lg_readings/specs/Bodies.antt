@@ -15,9 +15,9 @@ use Rattle.lg_types.specs.declared.calls.Write.TheVariants.{Create}
 use Rattle.lg_types.specs.declared.records.Posting.{Posting}
 use Rattle.lg_types.specs.declared.refusals.Reason.TheVariants.{Missing, Kind, Form}
 use Rattle.lg_types.specs.declared.refusals.Refusal.TheVariants.{Script, NoPostings}
-use Rattle.lg_views.specs.Paths.{Path, top, below, item_below}
-use Rattle.lg_views.specs.Answers.{Answer, wrong, known, gives, ◌>>=◌, IfForm}
-use Rattle.lg_views.specs.Values.{under, present, text_of, members_of, truth_of, amount_of, Name, OptionalName, OptionalMoment}
+use Rattle.lg_readings.specs.Paths.{Path, top, below, item_below}
+use Rattle.lg_readings.specs.Answers.{Answer, wrong, known, gives, ◌>>=◌, IfForm}
+use Rattle.lg_readings.specs.Values.{under, present, text_of, members_of, truth_of, amount_of, Name, OptionalName, OptionalMoment}
 
 -- ---- metadata: an object of texts
 

@@ -13,8 +13,8 @@ use Rattle.lg_types.specs.declared.queries.Query.{Query}
 use Rattle.lg_types.specs.declared.queries.Expand.{Expand}
 use Rattle.lg_types.specs.declared.queries.Span.{Span}
 use Rattle.lg_types.specs.declared.refusals.Refusal.TheVariants.{Token}
-use Rattle.lg_views.specs.Answers.{Answer}
-use Rattle.lg_views.specs.FilterReadings.{IsFilter}
+use Rattle.lg_readings.specs.Answers.{Answer}
+use Rattle.lg_readings.specs.FilterReadings.{IsFilter}
 use Rattle.lg_views.specs.Tokens.{token}
 
 -- the place of an item of each list; an aggregate has none

@@ -4,7 +4,7 @@ use Rattle.lg_types.specs.declared.refusals.Reason.{Reason}
 use Rattle.lg_types.specs.declared.refusals.Reason.TheVariants.{Form}
 use Rattle.lg_types.specs.declared.refusals.Refusal.{Refusal}
 use Rattle.lg_types.specs.declared.refusals.Refusal.TheVariants.{Member}
-use Rattle.lg_views.specs.Paths.{Path, path_text}
+use Rattle.lg_readings.specs.Paths.{Path, path_text}
 
 abbrev pub Answer : Type 0 → Type 0
 Answer A = Result A Refusal

@@ -24,16 +24,16 @@ use Rattle.lg_types.specs.declared.records.Target.TheVariants.{Account, Transact
 use Rattle.lg_types.specs.declared.refusals.FaultKind.{FaultKind}
 use Rattle.lg_types.specs.declared.refusals.Reason.TheVariants.{Kind, Form}
 use Rattle.lg_types.specs.declared.refusals.Refusal.TheVariants.{NoRoute, Method, BodyJson, OutOfMemory}
-use Rattle.lg_views.specs.Answers.{Answer, wrong, known, gives, ◌>>=◌, IfForm}
-use Rattle.lg_views.specs.Bodies.{Creation, texts_of, LedgerOf, revert_of}
-use Rattle.lg_views.specs.Elements.{ElementsOf}
-use Rattle.lg_views.specs.FilterReadings.{FilterOf}
-use Rattle.lg_views.specs.Parameters.{MomentParameter, truth_parameter, unless_true, PageSize, GroupBy, expand_parameter, hashes_parameter, no_order}
-use Rattle.lg_views.specs.Paths.{top}
-use Rattle.lg_views.specs.Routes.{Route, Row, ListLedgers, MakeLedger, ShowLedger, ListAccounts, ShowAccount, SetAccountMetadata, DropAccountMetadata, ListTransactions, CreateTransaction, ShowTransaction, SetTransactionMetadata, DropTransactionMetadata, RevertTransaction, RunBulk, ListLogs, ExportLogs, ImportLogs, ListVolumes, AggregateBalances, ShowStats, routes_at, has_method, names_in}
-use Rattle.lg_views.specs.Targets.{Parameter, path_segments, parameters, first_value}
-use Rattle.lg_views.specs.TokenReadings.{TokenQuery}
-use Rattle.lg_views.specs.Values.{present}
+use Rattle.lg_readings.specs.Answers.{Answer, wrong, known, gives, ◌>>=◌, IfForm}
+use Rattle.lg_readings.specs.Bodies.{Creation, texts_of, LedgerOf, revert_of}
+use Rattle.lg_readings.specs.Elements.{ElementsOf}
+use Rattle.lg_readings.specs.FilterReadings.{FilterOf}
+use Rattle.lg_readings.specs.Parameters.{MomentParameter, truth_parameter, unless_true, PageSize, GroupBy, expand_parameter, hashes_parameter, no_order}
+use Rattle.lg_readings.specs.Paths.{top}
+use Rattle.lg_readings.specs.Routes.{Route, Row, ListLedgers, MakeLedger, ShowLedger, ListAccounts, ShowAccount, SetAccountMetadata, DropAccountMetadata, ListTransactions, CreateTransaction, ShowTransaction, SetTransactionMetadata, DropTransactionMetadata, RevertTransaction, RunBulk, ListLogs, ExportLogs, ImportLogs, ListVolumes, AggregateBalances, ShowStats, routes_at, has_method, names_in}
+use Rattle.lg_readings.specs.Targets.{Parameter, path_segments, parameters, first_value}
+use Rattle.lg_readings.specs.TokenReadings.{TokenQuery}
+use Rattle.lg_readings.specs.Values.{present}
 
 -- the body that comes with a request: none, a JSON value, a text that is no JSON value, one for which memory was wanting, or the lines
 -- of an import

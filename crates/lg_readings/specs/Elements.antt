@@ -16,10 +16,10 @@ use Rattle.lg_types.specs.declared.refusals.Reason.TheVariants.{Kind, Form}
 use Rattle.lg_types.specs.declared.refusals.Refusal.TheVariants.{BulkSize}
 use Rattle.lg_views.specs.declared.replies.Action.{Action}
 use Rattle.lg_views.specs.declared.replies.Action.TheVariants.{CreateTransaction, AddMetadata, RevertTransaction, DeleteMetadata}
-use Rattle.lg_views.specs.Paths.{Path, top, below}
-use Rattle.lg_views.specs.Answers.{Answer, wrong, known, gives, ◌>>=◌}
-use Rattle.lg_views.specs.Values.{under, text_of, members_of, truth_of, id_of, Name, OptionalName}
-use Rattle.lg_views.specs.Bodies.{texts_of, CreationIn}
+use Rattle.lg_readings.specs.Paths.{Path, top, below}
+use Rattle.lg_readings.specs.Answers.{Answer, wrong, known, gives, ◌>>=◌}
+use Rattle.lg_readings.specs.Values.{under, text_of, members_of, truth_of, id_of, Name, OptionalName}
+use Rattle.lg_readings.specs.Bodies.{texts_of, CreationIn}
 use Rattle.lg_views.specs.ReplyTexts.{action_text}
 
 -- ---- what metadata are about: a type, and an address or an id

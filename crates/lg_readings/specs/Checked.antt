@@ -8,9 +8,9 @@ use Rattle.lg_types.specs.declared.calls.Batch.{Batch}
 use Rattle.lg_types.specs.declared.refusals.ImportCause.TheVariants as cause
 use Rattle.lg_types.specs.declared.refusals.Refusal.{Refusal}
 use Rattle.lg_types.specs.declared.refusals.Refusal.TheVariants.{Member}
-use Rattle.lg_views.specs.declared.readings.ReadEntry.{ReadEntry}
-use Rattle.lg_views.specs.Answers.{Answer}
-use Rattle.lg_views.specs.EntryLines.{LineOf}
+use Rattle.lg_readings.specs.declared.readings.ReadEntry.{ReadEntry}
+use Rattle.lg_readings.specs.Answers.{Answer}
+use Rattle.lg_readings.specs.EntryLines.{LineOf}
 use Rattle.lg_views.specs.Import.{ReadLine, Read, Unread, NumberedLine, checked_lines}
 
 abbrev pub is_newline : ℕ → Bool

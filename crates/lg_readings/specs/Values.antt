@@ -8,8 +8,8 @@ use Rattle.lg_json.specs.Tree.Members.{no_member, member}
 use Rattle.lg_time.specs.Moment.{IsMoment}
 use Rattle.lg_types.specs.declared.refusals.Reason.TheVariants.{Missing, Kind, Form}
 use Rattle.lg_types.specs.declared.refusals.Refusal.{Refusal}
-use Rattle.lg_views.specs.Paths.{Path}
-use Rattle.lg_views.specs.Answers.{Answer, wrong, known, gives, ◌>>=◌, IfForm}
+use Rattle.lg_readings.specs.Paths.{Path}
+use Rattle.lg_readings.specs.Answers.{Answer, wrong, known, gives, ◌>>=◌, IfForm}
 
 -- the value under a name
 abbrev pub value_of : List ℕ → Members → Option Tree

@@ -17,13 +17,13 @@ use Rattle.lg_types.specs.declared.refusals.Reason.TheVariants.{Missing, Kind, F
 use Rattle.lg_types.specs.declared.refusals.Refusal.{Refusal}
 use Rattle.lg_types.specs.declared.refusals.Refusal.TheVariants.{LineJson, LineMember}
 use Rattle.lg_views.specs.declared.lines.ScriptLine.{ScriptLine}
-use Rattle.lg_views.specs.Answers.{Answer, known, ◌>>=◌}
-use Rattle.lg_views.specs.Checked.{Shows, IsChecked, has_bytes}
-use Rattle.lg_views.specs.Parameters.{is_recompute}
-use Rattle.lg_views.specs.Requests.{Body, NoBody, ValueBody, LinesBody, IsRequest}
-use Rattle.lg_views.specs.Routes.{Route, BodyKind, ImportLines, body_kind, routes_at, has_method}
-use Rattle.lg_views.specs.Targets.{path_segments, parameters, first_value}
-use Rattle.lg_views.specs.Values.{under}
+use Rattle.lg_readings.specs.Answers.{Answer, known, ◌>>=◌}
+use Rattle.lg_readings.specs.Checked.{Shows, IsChecked, has_bytes}
+use Rattle.lg_readings.specs.Parameters.{is_recompute}
+use Rattle.lg_readings.specs.Requests.{Body, NoBody, ValueBody, LinesBody, IsRequest}
+use Rattle.lg_readings.specs.Routes.{Route, BodyKind, ImportLines, body_kind, routes_at, has_method}
+use Rattle.lg_readings.specs.Targets.{path_segments, parameters, first_value}
+use Rattle.lg_readings.specs.Values.{under}
 
 -- the lines that aren't empty, with their numbers from 1 on; a carriage return before a newline is dropped
 abbrev pub script_lines : List ℕ → List (ℕ × List ℕ)
