@@ -18,8 +18,8 @@ use crate::transactions::postings_in;
 use crate::values::{id_of, moment_of, name_of, same_bytes, text_of, under};
 use lg_containers::List;
 use lg_json::{Json, Member};
-use lg_types::{EntryBody, Posting, Postings, Reason, Reference, Transaction};
 use lg_readings::EntryType;
+use lg_types::{EntryBody, Posting, Postings, Reason, Reference, Transaction};
 use std::alloc::Global;
 
 /// The postings, at least one.

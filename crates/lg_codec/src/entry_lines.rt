@@ -16,8 +16,8 @@ use crate::values::{id_of, moment_of, optional_name_of, under};
 use base64::DecodeAllocError;
 use base64::engine::general_purpose::STANDARD;
 use lg_json::{Json, Member};
-use lg_types::{Entry, Key, KeyMark, Reason};
 use lg_readings::ReadEntry;
+use lg_types::{Entry, Key, KeyMark, Reason};
 use std::alloc::Global;
 
 fn hash_from(bytes: &[u8]) -> [u8; 32]

@@ -13,8 +13,8 @@ ghost use Rattle.lg_entry_lines.specs.Records.{IsEntry};
 
 use lg_codec::{CodecStop, entry_of_json};
 use lg_json::{Json, JsonFault, read};
-use lg_types::{ImportCause, Refusal};
 use lg_readings::ReadEntry;
+use lg_types::{ImportCause, Refusal};
 use std::alloc::Global;
 
 /// Why a line isn't read.
