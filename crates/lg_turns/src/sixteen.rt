@@ -1,5 +1,4 @@
 //! A row of sixteen places, which takes no memory of its own.
-#![tactic(auto)]
 
 ghost use Rattle.std.specs.Prelude.{◌≡◌, ◌<◌, List, ◌∷◌, [], Some, None, length, slice_get, slice_set};
 
