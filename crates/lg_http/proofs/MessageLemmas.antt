@@ -1,10 +1,10 @@
 -- A whole head, and the body behind it.
-use Rattle.std.proofs.Common.{◌≡◌, ℕ, ◌+◌, ◌-◌, ◌<◌, ◌≤◌, ◌^◌, min, Bool, true, false, List, [], ◌++◌, length, take, drop, Option, Some, None, inl, inr, refl, sym, ap, ◌∙◌, subst, arith, length-append}
+use Rattle.std.proofs.Common.{◌≡◌, ℕ, ◌+◌, ◌-◌, ◌<◌, ◌≤◌, List, [], ◌++◌, length, take, drop, Option, Some, None, inr, refl, sym, ap, ◌∙◌, subst, arith, length-append}
 use Rattle.std.specs.Prelude.{IfSome, Result, Ok, Err, IfOk}
 use Rattle.std.proofs.lemmas.List.{take-append-drop, length-take-le, length-drop, drop-drop}
 use Rattle.httparse.specs.declared.spans.Span.{Span}
 use Rattle.httparse.specs.Grammar.{RequestHead, print_request}
-use Rattle.httparse.specs.Spans.{IsWithin, span_bytes}
+use Rattle.httparse.specs.Spans.{IsWithin}
 use Rattle.httparse.proofs.GrammarLemmas.{print_request-append}
 use Rattle.lg_heads.specs.Heads.{IsHeadAt}
 use Rattle.lg_heads.specs.Verdicts.{IsWhole}

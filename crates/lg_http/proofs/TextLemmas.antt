@@ -1,5 +1,5 @@
 -- The texts of replies and refusals, from what their functions were told.
-use Rattle.std.proofs.Common.{◌≡◌, ℕ, Bool, true, List, [], ◌∷◌, ◌++◌, length, ap, ◌∙◌}
+use Rattle.std.proofs.Common.{◌≡◌, ℕ, Bool, true, List, [], ◌∷◌, length, ap, ◌∙◌}
 use Rattle.std.specs.Prelude.{codes, decimal}
 use Rattle.std.specs.List.{concat}
 use Rattle.lg_http.specs.Texts.{phrase_of, media_text, hit_line, line_end, status_line, content_lines, body_lines, body_text, count_lines, last_lines, http_text, refusal_status, refusal_body, refusal_text}

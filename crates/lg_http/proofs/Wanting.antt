@@ -1,11 +1,11 @@
 -- Bytes that were taken for one reason, and then for another.
-use Rattle.std.proofs.Common.{◌≡◌, ℕ, ◌≤◌, List, [], ◌++◌, inl, inr, ◌⊎◌, refl, sym, ap, ◌∙◌, subst, arith, append_assoc, append-nil}
+use Rattle.std.proofs.Common.{ℕ, ◌≤◌, List, [], ◌++◌, inl, inr, ◌⊎◌, sym, ap, ◌∙◌, subst, arith, append_assoc, append-nil}
 use Rattle.std.specs.Prelude.{Result, Ok, Err, IfOk, IfErr}
 use Rattle.lg_base.specs.Growth.{Rose}
 use Rattle.lg_base.specs.Told.{given}
 use Rattle.lg_base.specs.declared.source.Source.{Ghosts as SourceGhosts}
 use Rattle.lg_inlet.specs.Reading.{GaveSome}
-use Rattle.lg_inlet.specs.Taking.{Takes, IsWanted, TakesWanted, TakesTooFew, StopsTaking}
+use Rattle.lg_inlet.specs.Taking.{IsWanted, TakesWanted, TakesTooFew, StopsTaking}
 use Rattle.lg_inlet.specs.Unread.{unread}
 use Rattle.lg_inlet.specs.declared.inbox.Inbox.{Inbox}
 use Rattle.lg_inlet.specs.declared.stopped.Stopped.{Stopped}

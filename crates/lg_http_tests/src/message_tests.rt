@@ -11,6 +11,7 @@ use std::process::Abort;
 use std::test::Fail;
 
 /// Bodies of at most 15 bytes.
+#[derive(Drop)]
 struct Short;
 
 impl BodyLimits for Short {
@@ -38,7 +39,7 @@ fn message(len: usize, body: usize, closes: bool) -> Seen {
     Seen::Message { len, body, closes }
 }
 
-fn seen(next: Next) -> Seen {
+fn without_places(next: Next) -> Seen {
     match next {
         Next::Message(spans) => message(
             spans.len,
@@ -57,7 +58,7 @@ fn first_in(alloc: Global, bytes: &[u8], piece: usize) -> Result<Seen, Fail>
 {
     let mut source = CalmSource::new(bytes.to_vec(alloc)?, piece);
     let mut inbox = Inbox::new(alloc, ALLOWANCE)?;
-    Ok(seen(next_message(&mut inbox, &mut source, &Short)?))
+    Ok(without_places(next_message(&mut inbox, &mut source, &Short)?))
 }
 
 /// Asserts that the rows of a table are answered as it says, in pieces of 1, 7 and 65,536 bytes.

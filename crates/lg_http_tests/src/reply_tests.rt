@@ -8,6 +8,7 @@ use std::alloc::Global;
 use std::test::Fail;
 
 /// A reply with this head and body.
+#[derive(Drop)]
 struct Shown {
     head: ReplyHead,
     body: &'static [u8],

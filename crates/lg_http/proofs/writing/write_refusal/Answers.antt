@@ -1,4 +1,3 @@
-use Rattle.std.specs.Prelude.{IfOk, Ok, Err}
 use Rattle.lg_base.specs.Waiting.{waiting}
 use Rattle.lg_http.proofs.Buffering.{fed_whole, fed_in_part, flushed, stopped_early}
 use Rattle.lg_http.proofs.writing.write_refusal.Goals as goal
