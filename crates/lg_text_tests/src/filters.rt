@@ -31,15 +31,15 @@ fn told_field(alloc: Global, field: &Field) -> Result<String, Fail> {
         Field::Timestamp => text_of(alloc, b"timestamp"),
         Field::Date => text_of(alloc, b"date"),
         Field::Reverted => text_of(alloc, b"reverted"),
-        Field::Metadata(name) => joined(alloc, [b"metadata[", name.bytes(), b"]"]),
-        Field::Balance(asset) => joined(alloc, [b"balance[", asset.bytes(), b"]"]),
+        Field::Metadata(name) => joined(alloc, b"metadata[", name.bytes(), b"]"),
+        Field::Balance(asset) => joined(alloc, b"balance[", asset.bytes(), b"]"),
     }
 }
 
 /// A text in quotes, a number, a moment in microseconds since 1970-01-01T00:00:00Z, a truth.
 fn told_value(alloc: Global, value: &Value) -> Result<String, Fail> {
     match value {
-        Value::Text(text) => joined(alloc, [b"\"", text.bytes(), b"\""]),
+        Value::Text(text) => joined(alloc, b"\"", text.bytes(), b"\""),
         Value::Whole(number) => Ok(format!(in alloc; "{number}")?),
         Value::Moment(moment) => Ok(format!(in alloc; "moment {moment}")?),
         Value::Truth(truth) => Ok(format!(in alloc; "{truth}")?),
@@ -49,7 +49,7 @@ fn told_value(alloc: Global, value: &Value) -> Result<String, Fail> {
 fn told_comparison(alloc: Global, op: Op, field: &Field, value: &Value) -> Result<String, Fail> {
     let field = told_field(alloc, field)?;
     let value = told_value(alloc, value)?;
-    joined(alloc, [field.as_bytes(), operator(op), value.as_bytes()])
+    joined(alloc, field.as_bytes(), operator(op), value.as_bytes())
 }
 
 /// A filter over no other filters.
@@ -57,7 +57,7 @@ fn told_leaf(alloc: Global, filter: &Filter) -> Result<String, Fail> {
     match filter {
         Filter::All => text_of(alloc, b"all"),
         Filter::Compare { op, field, value } => told_comparison(alloc, *op, field, value),
-        Filter::Has(name) => joined(alloc, [b"has ", name.bytes(), b""]),
+        Filter::Has(name) => joined(alloc, b"has ", name.bytes(), b""),
         _ => text_of(alloc, b"several"),
     }
 }
@@ -68,7 +68,7 @@ fn told_filter(alloc: Global, filter: &Filter) -> Result<String, Fail> {
         Filter::Either(filters) => match filters.as_slice() {
             [Filter::All, Filter::Not(inner)] => {
                 let inner = told_leaf(alloc, inner.get())?;
-                joined(alloc, [b"all, or not ", inner.as_bytes(), b""])
+                joined(alloc, b"all, or not ", inner.as_bytes(), b"")
             }
             _ => told_leaf(alloc, filter),
         },

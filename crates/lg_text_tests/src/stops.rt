@@ -6,9 +6,12 @@ use lg_types::{Reason, Refusal};
 use std::alloc::Global;
 use std::test::Fail;
 
-/// Parts, one after the other.
-pub fn joined(alloc: Global, parts: [&[u8]; 3]) -> Result<String, Fail> {
-    let text = parts.concat(alloc)?;
+/// Three texts, one after the other.
+pub fn joined(alloc: Global, first: &[u8], second: &[u8], third: &[u8]) -> Result<String, Fail> {
+    let mut text = Vec::new(alloc);
+    text.extend_from_slice(first)?;
+    text.extend_from_slice(second)?;
+    text.extend_from_slice(third)?;
     text_of(alloc, text.as_slice())
 }
 
@@ -25,10 +28,12 @@ pub fn told_refusal(alloc: Global, refusal: &Refusal) -> Result<String, Fail> {
     match refusal {
         Refusal::Member { path, reason } => joined(
             alloc,
-            [path.bytes(), b": ", reason_word(*reason)],
+            path.bytes(),
+            b": ",
+            reason_word(*reason),
         ),
-        Refusal::Parameter { name } => joined(alloc, [b"query", b" ", name.bytes()]),
-        Refusal::BadFilter { path } => joined(alloc, [b"filter", b" ", path.bytes()]),
+        Refusal::Parameter { name } => joined(alloc, b"query", b" ", name.bytes()),
+        Refusal::BadFilter { path } => joined(alloc, b"filter", b" ", path.bytes()),
         Refusal::BodyJson { place, .. } => Ok(format!(in alloc; "body at byte {place}")?),
         Refusal::Token => text_of(alloc, b"cursor"),
         Refusal::Script => text_of(alloc, b"script"),
