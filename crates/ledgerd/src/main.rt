@@ -2,6 +2,7 @@
 #![tactic(auto)]
 
 mod adapters;
+mod codes;
 mod errors;
 mod limits;
 mod program;
@@ -12,6 +13,7 @@ mod tests;
 mod words;
 
 use adapters::{ReadSource, WriteSink};
+use codes::code;
 use lg_base::Status;
 use program::{refuse, top};
 use std::alloc::AllocError;
@@ -49,5 +51,5 @@ fn main(rt: HostRuntime) -> ExitCode {
         ),
         Err(AllocError) => refuse(Status::Memory, &mut WriteSink::new(rt.stderr())),
     };
-    ExitCode::from(status as u8)
+    ExitCode::from(code(status))
 }

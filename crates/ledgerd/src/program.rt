@@ -12,7 +12,7 @@ use crate::words::{Command, read_words};
 use lg_base::{ReadEnd, Sink, Source, Status, Stop, read_all, write_whole};
 use lg_batch::{NoMemory, RunEnd, read_script, run_script};
 use lg_generator::{make_summary, write_script};
-use lg_lists::Lists;
+use lg_pages::Lists;
 use std::alloc::Global;
 
 /// Does what the words say. `run` reads a script of requests from the source to its end, runs it on one thread, and writes

@@ -1,9 +1,10 @@
-//! The program over memory: worked inputs with their outputs, a failed read, and other words.
+//! The program over memory: worked inputs with their outputs, each read and each write that fails, and other words.
 
 use crate::adapters::{ReadSource, WriteSink};
+use crate::codes::code;
 use crate::program::top;
 use crate::rows::{ROWS, Row};
-use lg_base::{CalmSink, CalmSource, MemSource, Sink, Source, Status};
+use lg_base::{CalmSink, CalmSource, MemSink, MemSource, Sink, Source, Status};
 use std::alloc::Global;
 use std::test::Fail;
 
@@ -11,13 +12,23 @@ use std::test::Fail;
 #[derive(Drop)]
 struct Ending {
     status: Status,
-    out: CalmSink,
+    out: MemSink,
     error: CalmSink,
 }
 
 /// Calls the program over sinks in memory.
 fn call<S: Source>(alloc: Global, words: &[String], source: &mut S) -> Result<Ending, Fail> {
-    let mut out = CalmSink::new(alloc, 8192)?;
+    call_failing(alloc, words, source, Vec::new(alloc))
+}
+
+/// Calls the program over an output that takes at most 64 bytes a write, and fails at the listed writes.
+fn call_failing<S: Source>(
+    alloc: Global,
+    words: &[String],
+    source: &mut S,
+    fails: Vec<u64>,
+) -> Result<Ending, Fail> {
+    let mut out = MemSink::new(alloc, fails, 64, 8192)?;
     let mut error = CalmSink::new(alloc, 256)?;
     let status = top(alloc, words, source, &mut out, &mut error);
     Ok(Ending { status, out, error })
@@ -44,10 +55,17 @@ fn no_input_has_the_opening_event_alone(rt: HostRuntime) -> Result<(), Fail> {
     Ok(())
 }
 
+/// Whether all was done, and this was written.
+fn is_whole(ending: &Ending, output: &[u8]) -> bool {
+    ending.status == Status::Done
+        && ending.out.written() == output
+        && ending.error.written().is_empty()
+}
+
 /// Whether the run of a worked script writes what it has to.
 fn is_right(alloc: Global, row: &Row) -> Result<bool, Fail> {
     let ending = run(alloc, row.script)?;
-    Ok(ending.status == Status::Done && ending.out.written() == row.output)
+    Ok(is_whole(&ending, row.output))
 }
 
 #[test]
@@ -104,10 +122,11 @@ fn call_with(alloc: Global, first: &str, second: &str) -> Result<Ending, Fail> {
     call(alloc, &words, &mut source)
 }
 
-/// What a command without input writes to the output.
+/// What a command without input writes to the output, and in how many writes of at most 64 bytes.
 struct Made {
     words: &'static [&'static str],
     output: &'static [u8],
+    writes: u64,
 }
 
 /// Commands that read nothing, with what they write.
@@ -115,11 +134,13 @@ const MADE: [Made; 4] = [
     Made {
         words: &["usage"],
         output: USAGE,
+        writes: 2,
     },
     Made {
         words: &["script", "1", "1"],
         output: br#"{"caller":0,"phase":0,"now":"2024-01-01T00:00:00Z","method":"POST","path":"/v2/default/transactions","body":{"postings":[{"source":"world","destination":"customers:548","amount":1000,"asset":"USD/2"},{"source":"customers:548","destination":"shop:sales","amount":990,"asset":"USD/2"},{"source":"customers:548","destination":"shop:fees","amount":10,"asset":"USD/2"}]}}
 "#,
+        writes: 6,
     },
     Made {
         words: &["make", "1", "1"],
@@ -131,6 +152,7 @@ shop:sales USD/2 990 0 990
 world USD/2 0 1000 -1000
 head 6a95bbe8161286cabed967e1c74b332f937b7411bedf23cc11b06141323d2649
 ",
+        writes: 3,
     },
     Made {
         words: &["make", "1", "10000"],
@@ -142,6 +164,7 @@ shop:sales USD/2 13284000 1476000 11808000
 world USD/2 1490000 13410000 -11920000
 head ae64fae74c317bd0bcd911c9449b423e0c8568643d4f95c449d1bd41482a640b
 ",
+        writes: 4,
     },
 ];
 
@@ -159,11 +182,7 @@ fn is_made(alloc: Global, row: &Made) -> Result<bool, Fail> {
     let fails = vec![in alloc; 1u64]?;
     let mut source = MemSource::new(b"[]".to_vec(alloc)?, fails, 10);
     let ending = call(alloc, words.as_slice(), &mut source)?;
-    Ok(
-        ending.status == Status::Done
-            && ending.out.written() == row.output
-            && ending.error.written().is_empty(),
-    )
+    Ok(is_whole(&ending, row.output))
 }
 
 #[test]
@@ -171,6 +190,102 @@ fn commands_without_input_write_what_they_have_to(rt: HostRuntime) -> Result<(),
     for row in &MADE {
         let right = is_made(rt.alloc(), row)?;
         assert!(rt; right, "{}", row.words[0]);
+    }
+    Ok(())
+}
+
+/// Whether a call ended with this status and its line, and a front of the output was written.
+fn is_cut(ending: &Ending, status: Status, line: &[u8], output: &[u8]) -> bool {
+    ending.status == status
+        && ending.error.written() == line
+        && output.starts_with(ending.out.written())
+}
+
+/// Runs a worked script over a source that gives 64 bytes a read, and fails at this one.
+fn run_failing_at(alloc: Global, script: &[u8], read: u64) -> Result<Ending, Fail> {
+    let words = words_of(alloc, &["run"])?;
+    let fails = vec![in alloc; read]?;
+    let mut source = MemSource::new(script.to_vec(alloc)?, fails, 64);
+    call(alloc, words.as_slice(), &mut source)
+}
+
+#[test]
+fn each_read_that_fails_is_told(rt: HostRuntime) -> Result<(), Fail> {
+    // the script's 225 bytes are four reads, and a fifth finds the end
+    for read in 1..=5 {
+        let ending = run_failing_at(rt.alloc(), ROWS[0].script, read)?;
+        let told = is_cut(&ending, Status::ReadFault, b"ledgerd: read fault\n", b"");
+        assert!(rt; told, "read {read}");
+    }
+    Ok(())
+}
+
+#[test]
+fn no_read_comes_after_the_end(rt: HostRuntime) -> Result<(), Fail> {
+    let ending = run_failing_at(rt.alloc(), ROWS[0].script, 6)?;
+    assert!(rt; is_whole(&ending, ROWS[0].output));
+    Ok(())
+}
+
+/// Calls the program with the words over a sink that fails at this write.
+fn write_failing_at(
+    alloc: Global,
+    words: &[&str],
+    input: &[u8],
+    write: u64,
+) -> Result<Ending, Fail> {
+    let words = words_of(alloc, words)?;
+    let fails = vec![in alloc; write]?;
+    let mut source = CalmSource::new(input.to_vec(alloc)?, 1000);
+    call_failing(alloc, words.as_slice(), &mut source, fails)
+}
+
+/// Whether that write's failing is told, with a front of the output written.
+fn is_told(
+    alloc: Global,
+    words: &[&str],
+    input: &[u8],
+    write: u64,
+    output: &[u8],
+) -> Result<bool, Fail> {
+    let ending = write_failing_at(alloc, words, input, write)?;
+    Ok(is_cut(
+        &ending,
+        Status::WriteFault,
+        b"ledgerd: write fault\n",
+        output,
+    ))
+}
+
+#[test]
+fn each_write_of_a_run_that_fails_is_told(rt: HostRuntime) -> Result<(), Fail> {
+    // the output's 1,525 bytes are 24 writes
+    for write in 1..=24 {
+        let told = is_told(rt.alloc(), &["run"], ROWS[0].script, write, ROWS[0].output)?;
+        assert!(rt; told, "write {write}");
+    }
+    let ending = write_failing_at(rt.alloc(), &["run"], ROWS[0].script, 25)?;
+    assert!(rt; is_whole(&ending, ROWS[0].output));
+    Ok(())
+}
+
+/// Whether each write of a command without input is told where it fails, and a write after the last changes nothing.
+fn are_told(alloc: Global, row: &Made) -> Result<bool, Fail> {
+    for write in 1..=row.writes {
+        if !is_told(alloc, row.words, b"", write, row.output)? {
+            return Ok(false);
+        }
+    }
+    let ending = write_failing_at(alloc, row.words, b"", row.writes.saturating_add(1))?;
+    Ok(is_whole(&ending, row.output))
+}
+
+#[test]
+fn each_write_of_other_commands_that_fails_is_told(rt: HostRuntime) -> Result<(), Fail> {
+    // the run of 10,000 lines would take long
+    for row in &MADE[..3] {
+        let told = are_told(rt.alloc(), row)?;
+        assert!(rt; told, "{}", row.words[0]);
     }
     Ok(())
 }
@@ -241,4 +356,22 @@ fn a_writer_is_a_sink(rt: HostRuntime) {
     let mut sink = WriteSink::new(Vec::new(rt.alloc()));
     assert_eq!(rt; sink.write(b"abc"), Ok(3));
     assert_eq!(rt; sink.write(b""), Ok(0));
+}
+
+/// Each status with its number.
+const NUMBERS: [(Status, u8); 7] = [
+    (Status::Done, 0),
+    (Status::Words, 2),
+    (Status::ReadFault, 3),
+    (Status::WriteFault, 4),
+    (Status::Memory, 5),
+    (Status::InputLimit, 6),
+    (Status::BadLines, 7),
+];
+
+#[test]
+fn each_status_has_its_number(rt: HostRuntime) {
+    for (status, number) in &NUMBERS {
+        assert_eq!(rt; code(*status), *number);
+    }
 }

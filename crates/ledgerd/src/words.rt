@@ -3,7 +3,7 @@
 ghost use Rattle.std.specs.Prelude.{◌≡◌, ◌↔◌, ◌≤◌, [], ◌∷◌, IsTrue, codes, decimal, map, string_bytes};
 ghost use Rattle.ledgerd.specs.Words.{IsCommandOf, IsCount};
 
-use lg_targets::read_number;
+use lg_routes::read_number;
 
 /// The most lines of a made script.
 const MOST_LINES: u64 = 100_000;

@@ -3,7 +3,7 @@ use Rattle.std.proofs.Common.{◌≡◌, ℕ, ◌==◌, Bool, true, false, cond,
 use Rattle.std.specs.List.{filter, enumerate_from}
 use Rattle.std.specs.Str.Lines.{lines}
 use Rattle.std.proofs.lemmas.Grind.{common_steps}
-use Rattle.lg_views.specs.Checked.{has_bytes}
+use Rattle.lg_readings.specs.Checked.{has_bytes}
 use Rattle.lg_views.specs.declared.lines.ScriptLine.{ScriptLine}
 use Rattle.lg_batch.specs.Lines.{IsLine, AreLinesAfter, AreLines}
 use Rattle.lg_batch.specs.Reads.{Appends}

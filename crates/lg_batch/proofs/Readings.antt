@@ -10,9 +10,9 @@ use Rattle.lg_json.specs.Tree.{Tree}
 use Rattle.lg_json.specs.declared.json.JsonFault.{JsonFault}
 use Rattle.lg_json.specs.declared.json.JsonFault.TheVariants as faults
 use Rattle.lg_types.specs.declared.refusals.Refusal.{Refusal}
-use Rattle.lg_views.specs.Answers.{Answer, Then}
-use Rattle.lg_views.specs.Checked.{Shows}
-use Rattle.lg_views.specs.Script.{line_fault, IsLineFault}
+use Rattle.lg_readings.specs.Answers.{Answer, Then}
+use Rattle.lg_readings.specs.Checked.{Shows}
+use Rattle.lg_readings.specs.Script.{line_fault, IsLineFault}
 use Rattle.lg_batch.specs.Lines.{ContentBy, LineAnswer}
 use Rattle.lg_batch.specs.Reads.{ReadsAs, stop_of, content_seen}
 use Rattle.lg_batch.specs.declared.content.LineContent.{LineContent as Content}

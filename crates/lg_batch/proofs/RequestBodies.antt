@@ -10,14 +10,14 @@ use Rattle.lg_json.specs.Tree.Tree.{null, truth, whole, part, text, list, member
 use Rattle.lg_routes.specs.Calls.{kind_of, kind_found, recomputes_in, body_kind_of}
 use Rattle.lg_routes.specs.declared.body.BodyKind.{BodyKind}
 use Rattle.lg_routes.specs.declared.body.BodyKind.TheVariants.{Ignored, Json, Lines}
-use Rattle.lg_targets.specs.Table.{found_in}
+use Rattle.lg_routes.specs.Table.{found_in}
 use Rattle.lg_types.specs.declared.calls.Call.{Call}
-use Rattle.lg_views.specs.Requests.{Body, ValueBody, IsRequest}
-use Rattle.lg_views.specs.Routes as views
-use Rattle.lg_views.specs.Routes.{Route, ImportLogs, Segment, route, post, word, below_ledger, body_kind, routes, routes_at, has_path, has_method, fits_path}
-use Rattle.lg_views.specs.Script as script
-use Rattle.lg_views.specs.Script.{takes_lines, is_import_route, is_import}
-use Rattle.lg_views.specs.Targets.{path_segments, query_of}
+use Rattle.lg_readings.specs.Requests.{Body, ValueBody, IsRequest}
+use Rattle.lg_readings.specs.Routes as views
+use Rattle.lg_readings.specs.Routes.{Route, ImportLogs, Segment, route, post, word, below_ledger, body_kind, routes, routes_at, has_path, has_method, fits_path}
+use Rattle.lg_readings.specs.Script as script
+use Rattle.lg_readings.specs.Script.{takes_lines, is_import_route, is_import}
+use Rattle.lg_readings.specs.Targets.{path_segments, query_of}
 use Rattle.lg_batch.specs.Imports.{IsBodyOf, IsCallOf, as_unbuilt}
 
 -- ---- requests whose bodies hold lines

@@ -4,9 +4,9 @@ use Rattle.std.specs.Prelude.{codes, Result}
 use Rattle.std.specs.Str.{bytes_eq}
 use Rattle.lg_codec.specs.declared.stop.CodecStop.{CodecStop}
 use Rattle.lg_json.specs.Tree.{Tree, Members}
-use Rattle.lg_views.specs.Answers.{Answer, known, ◌>>=◌}
-use Rattle.lg_views.specs.Script.{LineContent, NowIn, text_member, number_member, key_member}
-use Rattle.lg_views.specs.Values.{value_of, present_in, under}
+use Rattle.lg_readings.specs.Answers.{Answer, known, ◌>>=◌}
+use Rattle.lg_readings.specs.Script.{LineContent, NowIn, text_member, number_member, key_member}
+use Rattle.lg_readings.specs.Values.{value_of, present_in, under}
 use Rattle.lg_batch.specs.Lines.{CallIn, ContentIn, ContentWith}
 use Rattle.lg_batch.specs.Reads.{ReadsAs, content_seen}
 use Rattle.lg_batch.specs.declared.content.LineContent.{LineContent as Content}

@@ -12,7 +12,7 @@ use Rattle.lg_codec.proofs.Onward.{entry_is}
 use Rattle.lg_json.specs.Tree.{Tree, Entry, tree, entry}
 use Rattle.lg_json.specs.Tree.Members.{member}
 use Rattle.lg_json.specs.declared.json.Member.{Member}
-use Rattle.lg_views.specs.Values.{value_of}
+use Rattle.lg_readings.specs.Values.{value_of}
 use Rattle.lg_batch.proofs.Cuts.{place_some, place_none}
 
 abbrev pub is_called : List ℕ → Member → Bool

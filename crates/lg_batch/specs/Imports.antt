@@ -6,8 +6,8 @@ use Rattle.lg_types.specs.declared.calls.Batch.{Batch}
 use Rattle.lg_types.specs.declared.calls.Call.{Call}
 use Rattle.lg_types.specs.declared.calls.Call.TheVariants.{Unreadable, MakeLedger, Write, Bulk, Import, Ledgers, Read}
 use Rattle.lg_types.specs.declared.refusals.Refusal.TheVariants.{NotBuilt}
-use Rattle.lg_views.specs.Requests.{Body, NoBody, ValueBody, LinesBody, IsRequest}
-use Rattle.lg_views.specs.Script.{is_import}
+use Rattle.lg_readings.specs.Requests.{Body, NoBody, ValueBody, LinesBody, IsRequest}
+use Rattle.lg_readings.specs.Script.{is_import}
 
 -- the body of an import: a text holds lines, which may come to any batch
 abbrev pub IsImportBody : Tree → Body → Type 0

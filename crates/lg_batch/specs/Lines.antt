@@ -5,10 +5,10 @@ use Rattle.lg_json.specs.Tree.Tree.{members}
 use Rattle.lg_types.specs.declared.calls.Call.{Call}
 use Rattle.lg_types.specs.declared.refusals.Reason.TheVariants.{Kind}
 use Rattle.lg_views.specs.declared.lines.ScriptLine.{ScriptLine}
-use Rattle.lg_views.specs.Answers.{Answer, known, ◌>>=◌}
-use Rattle.lg_views.specs.Checked.{Shows}
-use Rattle.lg_views.specs.Script.{LineContent, content, IsLineFault, NowIn, bad_member, text_member, number_member, key_member, line_of, script_lines}
-use Rattle.lg_views.specs.Values.{under}
+use Rattle.lg_readings.specs.Answers.{Answer, known, ◌>>=◌}
+use Rattle.lg_readings.specs.Checked.{Shows}
+use Rattle.lg_readings.specs.Script.{LineContent, content, IsLineFault, NowIn, bad_member, text_member, number_member, key_member, line_of, script_lines}
+use Rattle.lg_readings.specs.Values.{under}
 use Rattle.lg_batch.specs.Imports.{IsCallOf}
 
 -- the call of a line, with its moment, its caller and its phase

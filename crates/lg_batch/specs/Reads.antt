@@ -5,8 +5,8 @@ use Rattle.lg_codec.specs.declared.stop.CodecStop.{CodecStop}
 use Rattle.lg_codec.specs.declared.stop.CodecStop.TheVariants.{Refused, NoMemory}
 use Rattle.lg_types.specs.declared.refusals.Refusal.{Refusal}
 use Rattle.lg_views.specs.declared.lines.ScriptLine.{ScriptLine}
-use Rattle.lg_views.specs.Answers.{Answer}
-use Rattle.lg_views.specs.Script as script
+use Rattle.lg_readings.specs.Answers.{Answer}
+use Rattle.lg_readings.specs.Script as script
 use Rattle.lg_batch.specs.declared.content.LineContent.{LineContent}
 use Rattle.lg_batch.specs.Lines.{IsLine}
 

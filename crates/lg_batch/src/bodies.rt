@@ -4,10 +4,10 @@ ghost use Rattle.std.specs.Prelude.{◌≡◌, ℕ, List, false, bytes_eq, codes
 ghost use Rattle.std.specs.Option.{option_map};
 ghost use Rattle.lg_codec.specs.Seen.{members_seen};
 ghost use Rattle.lg_json.specs.Tree.{tree};
-ghost use Rattle.lg_views.specs.Values as values;
+ghost use Rattle.lg_readings.specs.Values as values;
 
 use lg_json::{Json, Member, MemberList};
-use lg_targets::same_bytes;
+use lg_routes::same_bytes;
 
 /// The place of the first member that is named `body`.
 fn body_place(members: &[Member]) -> Option<usize>

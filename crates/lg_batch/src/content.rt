@@ -4,7 +4,7 @@ ghost use Rattle.std.specs.Prelude.{◌≡◌, IfOk};
 ghost use Rattle.std.specs.Option.{option_map};
 ghost use Rattle.lg_codec.specs.Seen.{members_seen};
 ghost use Rattle.lg_json.specs.Tree.{tree};
-ghost use Rattle.lg_targets.specs.Seen.{bytes_seen};
+ghost use Rattle.lg_routes.specs.Seen.{bytes_seen};
 ghost use Rattle.lg_batch.specs.Lines.{ContentWith, ContentIn, ContentBy, LineAnswer, IsLine};
 ghost use Rattle.lg_batch.specs.Imports.{IsCallOf};
 ghost use Rattle.lg_batch.specs.Reads.{ReadsAs, content_seen};

@@ -3,7 +3,7 @@
 ghost use Rattle.std.specs.Prelude.{◌≡◌, Some, IfOk};
 ghost use Rattle.std.specs.Option.{option_map};
 ghost use Rattle.lg_json.specs.Tree.{tree};
-ghost use Rattle.lg_views.specs.Script as script;
+ghost use Rattle.lg_readings.specs.Script as script;
 ghost use Rattle.lg_routes.specs.Body.{body_seen};
 ghost use Rattle.lg_batch.specs.Imports.{IsImportBody, IsBodyOf, as_unbuilt as as_unbuilt_call};
 

@@ -4,16 +4,16 @@ ghost use Rattle.std.specs.Prelude.{◌≡◌, ◌<◌, false, bytes_eq, codes, 
 ghost use Rattle.std.specs.Option.{option_map};
 ghost use Rattle.lg_codec.specs.Seen.{value_seen, members_seen};
 ghost use Rattle.lg_json.specs.Tree.{tree};
-ghost use Rattle.lg_targets.specs.Seen.{bytes_seen};
-ghost use Rattle.lg_views.specs.Answers.{known};
-ghost use Rattle.lg_views.specs.Script as script;
-ghost use Rattle.lg_views.specs.Values as values;
+ghost use Rattle.lg_routes.specs.Seen.{bytes_seen};
+ghost use Rattle.lg_readings.specs.Answers.{known};
+ghost use Rattle.lg_readings.specs.Script as script;
+ghost use Rattle.lg_readings.specs.Values as values;
 ghost use Rattle.lg_batch.specs.Reads.{ReadsAs, lent_bytes};
 
 use crate::stops::bad_member;
 use lg_codec::CodecStop;
 use lg_json::{Json, Member};
-use lg_targets::same_bytes;
+use lg_routes::same_bytes;
 use lg_time::read_moment;
 use lg_types::Reason;
 use std::alloc::Global;

@@ -10,8 +10,8 @@ ghost use Rattle.lg_views.specs.Output.{answer_line, event_line, event_lines};
 use crate::line_parts::LinePart;
 use lg_base::{Feed, Stop};
 use lg_book::Book;
-use lg_codec::{reply_text, status_of};
 use lg_containers::{Canonical, feed_all};
+use lg_replies::{reply_text, status_of};
 use lg_types::{Event, Part, event_text};
 use lg_views::{Answer, ScriptLine};
 

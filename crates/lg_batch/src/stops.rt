@@ -4,7 +4,7 @@ ghost use Rattle.std.specs.Prelude.{◌≡◌, IfOk};
 ghost use Rattle.lg_codec.specs.Stops.{StopsWith};
 ghost use Rattle.lg_codec.specs.declared.stop.CodecStop.TheVariants.{Refused};
 ghost use Rattle.lg_types.specs.declared.refusals.Refusal.TheVariants.{LineJson, LineMember};
-ghost use Rattle.lg_views.specs.Script.{line_fault};
+ghost use Rattle.lg_readings.specs.Script.{line_fault};
 ghost use Rattle.lg_batch.specs.Reads.{stop_of};
 
 use lg_base::NoMemory;

@@ -2,9 +2,8 @@
 use Rattle.std.proofs.Common.{◌≡◌, ℕ, ℤ, Bool, true, false, cond, List, [], ◌∷◌, ◌++◌, length, take, drop, slice_get, IsSome, IfSome, Option, Some, None, refl, sym, ap, ap₂, subst, ◌∙◌}
 use Rattle.std.specs.Prelude.{is_some}
 use Rattle.std.specs.Option.{option_map}
-use Rattle.std.specs.FinMap.Entries.{find}
 use Rattle.std.proofs.lemmas.List.{take-append-drop}
-use Rattle.lg_containers.specs.NameOrder.{name_order}
+use Rattle.lg_containers.specs.NameTable.{get}
 use Rattle.lg_meta.specs.MetaFold.{changes_about}
 use Rattle.lg_types.specs.declared.records.Entry.{Entry}
 use Rattle.lg_types.specs.declared.records.Event.{Event}
@@ -19,21 +18,21 @@ use Rattle.lg_views.specs.Writes.{first_reply, up_to}
 use Rattle.lg_book.specs.FirstVolumes.{entry_volumes}
 use Rattle.lg_book.specs.Reading.{ledger_of, count_entries, count_transactions, find_entry, transaction_at, inserted_at, reverted_by}
 use Rattle.lg_book.specs.Index.{by_id, ledger_part, LedgerView, IsIndex, IsIndexed, IsBook, entry_there, info_if, entry_by_record, made_by_record, transaction_by_entry, date_by_entry, reverted_by_record, history_of}
-use Rattle.lg_book.specs.Writing.{Pairs}
+use Rattle.lg_book.specs.Writing.{Ledgers}
 use Rattle.lg_book.proofs.Lists.{not_some}
 use Rattle.lg_book.proofs.Sound.{IsSound, sound-take, absent-take}
 use Rattle.lg_book.proofs.BookSteps.{prefix_absent}
 use Rattle.lg_book.proofs.FoundRecords.{none_made, there-made, ledger-made, ReadsEntry, reads_entry, NoEntry, AnEntry, entry-read, last-read, transaction-read, inserted-read, reverted-read, history-there, history-read, info-read}
 
-pub at_name : (name found : List ℕ) (pairs given : Pairs) (o : Option LedgerView) → o ≡ find name_order found given → found ≡ name → given ≡ pairs → find name_order name pairs ≡ o
-at_name name found pairs given o is n p = sym (is ∙ ap₂ (λ q ps. find name_order q ps) n p)
+pub at_name : (name found : List ℕ) (ledgers given : Ledgers) (o : Option LedgerView) → o ≡ get given found → found ≡ name → given ≡ ledgers → get ledgers name ≡ o
+at_name name found ledgers given o is n p = sym (is ∙ ap₂ (λ q t. get t q) n p)
 
 pub whole_list : (count : ℕ) (all events prepared : List Event) → take count all ≡ events → drop count all ≡ prepared → events ++ prepared ≡ all
 whole_list count all events prepared e p = ap₂ (λ l m. l ++ m) (sym e) (sym p) ∙ take-append-drop count all
 
 -- a reader answers from an empty log where the ledger isn't there
-module _ (all : List Event) (count : ℕ) (pairs : Pairs) (h : IsBook all count pairs) (name : List ℕ) (events : List Event) (view : take count all ≡ events) where
-  module _ (none : find name_order name pairs ≡ None) where
+module _ (all : List Event) (count : ℕ) (ledgers : Ledgers) (h : IsBook all count ledgers) (name : List ℕ) (events : List Event) (view : take count all ≡ events) where
+  module _ (none : get ledgers name ≡ None) where
     absent : is_there (take count all) name ≡ false
     absent = prefix_absent name count all (none_made name 0 all (subst (IsIndexed (ledger_part name count all)) none (h.indexes name)))
 
@@ -53,7 +52,7 @@ module _ (all : List Event) (count : ℕ) (pairs : Pairs) (h : IsBook all count 
         missing None e = refl
         missing (Some x) e = absurd (let f : true ≡ false = e in cc)
 
-  module _ (x : LedgerView) (is : find name_order name pairs ≡ Some x) where
+  module _ (x : LedgerView) (is : get ledgers name ≡ Some x) where
     index : IsIndex (ledger_part name count all) x
     index = subst (IsIndexed (ledger_part name count all)) is (h.indexes name)
 

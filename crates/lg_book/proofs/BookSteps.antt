@@ -1,15 +1,14 @@
 -- What is kept of all ledgers, when an event is prepared and when it is added.
-use Rattle.std.proofs.Common.{◌≡◌, ℕ, zero, suc, ◌+◌, ◌<◌, ◌≤◌, Bool, true, false, cond, ◌||◌, List, [], ◌∷◌, ◌++◌, map, length, take, drop, slice_get, IsTrue, IfSome, Option, Some, None, refl, sym, ap, ap₂, subst, ◌∙◌, inl, inr, arith}
+use Rattle.std.proofs.Common.{◌≡◌, ℕ, zero, suc, ◌+◌, ◌<◌, ◌≤◌, Bool, true, false, cond, ◌||◌, List, [], ◌∷◌, ◌++◌, map, length, take, drop, slice_get, IfSome, Option, Some, None, refl, sym, ap, ap₂, subst, ◌∙◌, inl, inr, arith}
 use Rattle.std.specs.Prelude.{◌⊎◌}
 use Rattle.std.specs.Option.{option_map}
 use Rattle.std.specs.List.{flat_map, list_any}
 use Rattle.std.specs.Str.{bytes_eq}
-use Rattle.std.specs.FinMap.Entries.{find, put}
 use Rattle.std.proofs.lemmas.List.{append-nil, length-append, take-append-le, take-append-drop}
 use Rattle.std.proofs.lemmas.List.Folds.{list_any-append}
 use Rattle.std.proofs.lemmas.Grind.{flat_map-append}
 use Rattle.std.proofs.Math.Seq.{take-append_seam}
-use Rattle.lg_containers.specs.NameOrder.{name_order, is_in_order}
+use Rattle.lg_containers.specs.NameTable.{empty, get, insert, get-empty}
 use Rattle.lg_types.specs.declared.records.Entry.{Entry}
 use Rattle.lg_types.specs.declared.records.Event.{Event}
 use Rattle.lg_types.specs.declared.records.Event.TheVariants.{Made, Logged}
@@ -20,9 +19,9 @@ use Rattle.lg_book.specs.declared.volumes.FirstVolumes.{FirstVolumes}
 use Rattle.lg_book.specs.FirstVolumes.{entry_volumes, volumes_after}
 use Rattle.lg_book.specs.Following.{MayFollowLog, MayFollow, IsGrown}
 use Rattle.lg_book.specs.Index.{places_of, made_as, event_transactions, LedgerPart, ledger_part, LedgerView, all_volumes, IsRecord, IsIndex, IsIndexed, IsBook, new_index, index_made, index_prepared, index_added, put_if, put_changed, CanPrepare, CanAdd}
-use Rattle.lg_book.specs.Writing.{Pairs, CanPrepareEvent, event_prepared, CanAddEvent, event_added}
+use Rattle.lg_book.specs.Writing.{Ledgers, CanPrepareEvent, event_prepared, CanAddEvent, event_added}
 use Rattle.lg_book.proofs.Lists.{not_some, snoc_cases, slice_get_within_length, take-snoc}
-use Rattle.lg_book.proofs.Pairs.{order-put, find-here, find-other}
+use Rattle.lg_book.proofs.LedgerMaps.{get-here, get-other}
 use Rattle.lg_book.proofs.Places.{length-places}
 use Rattle.lg_book.proofs.Sound.{IsSound, sound-take, absent-take, same_bytes, bytes_same, or_left, or_right}
 use Rattle.lg_book.proofs.IndexSteps.{whole_log, transactions-events, tied, part_with, part-snoc, part_same, index_can_prepare, index_prepared_is, part_added, index_can_add, index_added_is}
@@ -90,30 +89,23 @@ prefix_absent ledger count all h =
 
 -- ---- maps changed at a name
 
-pub find-changed-other : (name other : List ℕ) (change : LedgerView → LedgerView) (pairs : Pairs) → (other ≡ name → ⊥) → find name_order other (put_changed name change pairs) ≡ find name_order other pairs
-find-changed-other name other change pairs h = by_found (find name_order name pairs)
+pub get-changed-other : (name other : List ℕ) (change : LedgerView → LedgerView) (ledgers : Ledgers) → (other ≡ name → ⊥) → get (put_changed name change ledgers) other ≡ get ledgers other
+get-changed-other name other change ledgers h = by_found (get ledgers name)
   where
-    by_found : (o : Option LedgerView) → find name_order other (put_if name (option_map change o) pairs) ≡ find name_order other pairs
+    by_found : (o : Option LedgerView) → get (put_if name (option_map change o) ledgers) other ≡ get ledgers other
     by_found None = refl
-    by_found (Some x) = find-other name other (change x) pairs h
-
-pub order-changed : (name : List ℕ) (change : LedgerView → LedgerView) (pairs : Pairs) → IsTrue (is_in_order pairs) → IsTrue (is_in_order (put_changed name change pairs))
-order-changed name change pairs h = by_found (find name_order name pairs)
-  where
-    by_found : (o : Option LedgerView) → IsTrue (is_in_order (put_if name (option_map change o) pairs))
-    by_found None = h
-    by_found (Some x) = order-put name (change x) pairs h
+    by_found (Some x) = get-other name other (change x) ledgers h
 
 -- what holds of the changed value of the name
-pub changed_holds : (name : List ℕ) (change : LedgerView → LedgerView) (pairs : Pairs) (P Q : Option LedgerView → Type 0) → P (find name_order name pairs) → (P None → Q None) → ((x : LedgerView) → P (Some x) → Q (Some (change x)))
-    → Q (find name_order name (put_changed name change pairs))
-changed_holds name change pairs P Q h none some = by_found (find name_order name pairs) refl h
+pub changed_holds : (name : List ℕ) (change : LedgerView → LedgerView) (ledgers : Ledgers) (P Q : Option LedgerView → Type 0) → P (get ledgers name) → (P None → Q None) → ((x : LedgerView) → P (Some x) → Q (Some (change x)))
+    → Q (get (put_changed name change ledgers) name)
+changed_holds name change ledgers P Q h none some = by_found (get ledgers name) refl h
   where
-    by_found : (o : Option LedgerView) → find name_order name pairs ≡ o → P o → Q (find name_order name (put_if name (option_map change o) pairs))
+    by_found : (o : Option LedgerView) → get ledgers name ≡ o → P o → Q (get (put_if name (option_map change o) ledgers) name)
     by_found None e p = subst Q (sym e) (none p)
-    by_found (Some x) e p = subst Q (sym (find-here name (change x) pairs)) (some x p)
+    by_found (Some x) e p = subst Q (sym (get-here name (change x) ledgers)) (some x p)
 
-module _ (all : List Event) (count : ℕ) (pairs : Pairs) (h : IsBook all count pairs) where
+module _ (all : List Event) (count : ℕ) (ledgers : Ledgers) (h : IsBook all count ledgers) where
   whole_sound : (ledger : List ℕ) → IsSound (log (take count all) ledger ++ log (drop count all) ledger)
   whole_sound ledger = subst IsSound (sym (whole_log ledger count all)) (subst (λ es. IsSound (log es ledger)) (take_all all) (sound-take all h.grown ledger (length all) (omega arith)))
 
@@ -121,8 +113,8 @@ module _ (all : List Event) (count : ℕ) (pairs : Pairs) (h : IsBook all count 
   log_absent ledger none =
       ap (λ es. log es ledger) (sym (take_all all)) ∙ absent-take all h.grown ledger (length all) (omega arith) (ap (λ es. is_there es ledger) (take_all all) ∙ none)
 
-  pub not_found : (ledger : List ℕ) → is_there all ledger ≡ false → find name_order ledger pairs ≡ None
-  not_found ledger none = by_found (find name_order ledger pairs) (h.indexes ledger)
+  pub not_found : (ledger : List ℕ) → is_there all ledger ≡ false → get ledgers ledger ≡ None
+  not_found ledger none = by_found (get ledgers ledger) (h.indexes ledger)
     where
       by_found : (o : Option LedgerView) → IsIndexed (ledger_part ledger count all) o → o ≡ None
       by_found None i = refl
@@ -143,28 +135,27 @@ module _ (all : List Event) (count : ℕ) (pairs : Pairs) (h : IsBook all count 
         ∙ ap (λ b. part_with (ledger_part ledger count all) (length all) [] (cond b (e ∷ []) [])) (bytes_differ name ledger (λ same. other (sym same)))
         ∙ part_same (ledger_part ledger count all) (length all)
 
-    entry_can_prepare : IfSome (find name_order name pairs) (λ x. CanPrepare x.transactions e.body)
-    entry_can_prepare = by_found (find name_order name pairs) (h.indexes name)
+    entry_can_prepare : IfSome (get ledgers name) (λ x. CanPrepare x.transactions e.body)
+    entry_can_prepare = by_found (get ledgers name) (h.indexes name)
       where
         by_found : (o : Option LedgerView) → IsIndexed (ledger_part name count all) o → IfSome o (λ x. CanPrepare x.transactions e.body)
         by_found None i = tt
         by_found (Some x) i = index_can_prepare (ledger_part name count all) x i (tied name count all) e (whole_sound name) follows
 
-    entry_prepared : (volumes : FirstVolumes) → volumes ≡ volumes_after all (Logged name e) → IsBook (all ++ Logged name e ∷ []) count (put_changed name (index_prepared (length all) e volumes) pairs)
+    entry_prepared : (volumes : FirstVolumes) → volumes ≡ volumes_after all (Logged name e) → IsBook (all ++ Logged name e ∷ []) count (put_changed name (index_prepared (length all) e volumes) ledgers)
     entry_prepared volumes is = record {
       within = (let le : count ≤ length all = h.within in let more : length (all ++ Logged name e ∷ []) ≡ length all + 1 = length-append all (Logged name e ∷ []) in omega (arith, le, more));
       grown = grown-snoc all (Logged name e) h.grown f;
-      in_order = order-changed name (index_prepared (length all) e volumes) pairs h.in_order;
       indexes = λ ledger. elim (same_or_not ledger name) [
         | inl same ↦
-            subst (λ l. IsIndexed (ledger_part l count (all ++ Logged name e ∷ [])) (find name_order l (put_changed name (index_prepared (length all) e volumes) pairs))) (sym same)
-            (subst (λ p. IsIndexed p (find name_order name (put_changed name (index_prepared (length all) e volumes) pairs))) (sym own_part)
-            (changed_holds name (index_prepared (length all) e volumes) pairs (IsIndexed (ledger_part name count all)) (IsIndexed (part_with (ledger_part name count all) (length all) [] (e ∷ []))) (h.indexes name)
+            subst (λ l. IsIndexed (ledger_part l count (all ++ Logged name e ∷ [])) (get (put_changed name (index_prepared (length all) e volumes) ledgers) l)) (sym same)
+            (subst (λ p. IsIndexed p (get (put_changed name (index_prepared (length all) e volumes) ledgers) name)) (sym own_part)
+            (changed_holds name (index_prepared (length all) e volumes) ledgers (IsIndexed (ledger_part name count all)) (IsIndexed (part_with (ledger_part name count all) (length all) [] (e ∷ []))) (h.indexes name)
             (λ none. append-nil _ ∙ none)
             (λ x i. index_prepared_is (ledger_part name count all) x i (tied name count all) e (length all) volumes (whole_sound name) follows (is ∙ ap (λ g. entry_volumes (g ++ e ∷ []) e) (sym (whole_log name count all))))))
         | inr other ↦
-            subst (IsIndexed (ledger_part ledger count (all ++ Logged name e ∷ []))) (sym (find-changed-other name ledger (index_prepared (length all) e volumes) pairs other))
-            (subst (λ p. IsIndexed p (find name_order ledger pairs)) (sym (other_part ledger other)) (h.indexes ledger))
+            subst (IsIndexed (ledger_part ledger count (all ++ Logged name e ∷ []))) (sym (get-changed-other name ledger (index_prepared (length all) e volumes) ledgers other))
+            (subst (λ p. IsIndexed p (get ledgers ledger)) (sym (other_part ledger other)) (h.indexes ledger))
       ];
     }
 
@@ -200,26 +191,25 @@ module _ (all : List Event) (count : ℕ) (pairs : Pairs) (h : IsBook all count 
           records = λ k r is. absurd (not_some r is);
         }
 
-    made_prepared : IsBook (all ++ Made info ∷ []) count (put name_order info.name (new_index (length all)) pairs)
+    made_prepared : IsBook (all ++ Made info ∷ []) count (insert ledgers info.name (new_index (length all)))
     made_prepared = record {
       within = (let le : count ≤ length all = h.within in let more : length (all ++ Made info ∷ []) ≡ length all + 1 = length-append all (Made info ∷ []) in omega (arith, le, more));
       grown = grown-snoc all (Made info) h.grown absent;
-      in_order = order-put info.name (new_index (length all)) pairs h.in_order;
       indexes = λ ledger. elim (same_or_not ledger info.name) [
         | inl same ↦
-            subst (λ l. IsIndexed (ledger_part l count (all ++ Made info ∷ [])) (find name_order l (put name_order info.name (new_index (length all)) pairs))) (sym same)
-            (subst (IsIndexed (ledger_part info.name count (all ++ Made info ∷ []))) (sym (find-here info.name (new_index (length all)) pairs)) (subst (λ p. IsIndex p (new_index (length all))) (sym new_part) new_index_is))
+            subst (λ l. IsIndexed (ledger_part l count (all ++ Made info ∷ [])) (get (insert ledgers info.name (new_index (length all))) l)) (sym same)
+            (subst (IsIndexed (ledger_part info.name count (all ++ Made info ∷ []))) (sym (get-here info.name (new_index (length all)) ledgers)) (subst (λ p. IsIndex p (new_index (length all))) (sym new_part) new_index_is))
         | inr other ↦
-            subst (IsIndexed (ledger_part ledger count (all ++ Made info ∷ []))) (sym (find-other info.name ledger (new_index (length all)) pairs other))
-            (subst (λ p. IsIndexed p (find name_order ledger pairs)) (sym (still_part ledger other)) (h.indexes ledger))
+            subst (IsIndexed (ledger_part ledger count (all ++ Made info ∷ []))) (sym (get-other info.name ledger (new_index (length all)) ledgers other))
+            (subst (λ p. IsIndexed p (get ledgers ledger)) (sym (still_part ledger other)) (h.indexes ledger))
       ];
     }
 
-  pub event_can_prepare : (event : Event) → MayFollow all event → CanPrepareEvent pairs event
+  pub event_can_prepare : (event : Event) → MayFollow all event → CanPrepareEvent ledgers event
   event_can_prepare (Made info) f = not_found info.name f
   event_can_prepare (Logged name e) f = entry_can_prepare name e f
 
-  pub event_prepared_is : (event : Event) (volumes : FirstVolumes) → MayFollow all event → volumes ≡ volumes_after all event → IsBook (all ++ event ∷ []) count (event_prepared (length all) event volumes pairs)
+  pub event_prepared_is : (event : Event) (volumes : FirstVolumes) → MayFollow all event → volumes ≡ volumes_after all event → IsBook (all ++ event ∷ []) count (event_prepared (length all) event volumes ledgers)
   event_prepared_is (Made info) volumes f is = made_prepared info f
   event_prepared_is (Logged name e) volumes f is = entry_prepared name e f volumes is
 
@@ -267,28 +257,27 @@ module _ (all : List Event) (count : ℕ) (pairs : Pairs) (h : IsBook all count 
         let added : log (take count all) name ++ logged name (Logged name e) ≡ log (take count all) name ++ e ∷ [] = ap (λ b. log (take count all) name ++ cond b (e ∷ []) []) (same_bytes name) in
         λ i. record (ledger_part name count all) { there = there i; added = added i; prepared = log (drop (suc count) all) name })
 
-    entry_can_add : IfSome (find name_order name pairs) (λ x. CanAdd e x)
-    entry_can_add = by_found (find name_order name pairs) (h.indexes name)
+    entry_can_add : IfSome (get ledgers name) (λ x. CanAdd e x)
+    entry_can_add = by_found (get ledgers name) (h.indexes name)
       where
         by_found : (o : Option LedgerView) → IsIndexed (ledger_part name count all) o → IfSome o (λ x. CanAdd e x)
         by_found None i = tt
         by_found (Some x) i = index_can_add (ledger_part name count all) (log (drop (suc count) all) name) e x entry_first i (tied name count all) (added_sound (Logged name e) next name) follows_added
 
-    entry_added : IsBook all (suc count) (put_changed name (index_added e) pairs)
+    entry_added : IsBook all (suc count) (put_changed name (index_added e) ledgers)
     entry_added = record {
       within = next_within (Logged name e) next;
       grown = h.grown;
-      in_order = order-changed name (index_added e) pairs h.in_order;
       indexes = λ ledger. elim (same_or_not ledger name) [
         | inl same ↦
-            subst (λ l. IsIndexed (ledger_part l (suc count) all) (find name_order l (put_changed name (index_added e) pairs))) (sym same)
-            (subst (λ p. IsIndexed p (find name_order name (put_changed name (index_added e) pairs))) (sym entry_part)
-            (changed_holds name (index_added e) pairs (IsIndexed (ledger_part name count all)) (IsIndexed (part_added (ledger_part name count all) (is_there (take count all) name) (log (take count all) name ++ e ∷ []) (log (drop (suc count) all) name))) (h.indexes name)
+            subst (λ l. IsIndexed (ledger_part l (suc count) all) (get (put_changed name (index_added e) ledgers) l)) (sym same)
+            (subst (λ p. IsIndexed p (get (put_changed name (index_added e) ledgers) name)) (sym entry_part)
+            (changed_holds name (index_added e) ledgers (IsIndexed (ledger_part name count all)) (IsIndexed (part_added (ledger_part name count all) (is_there (take count all) name) (log (take count all) name ++ e ∷ []) (log (drop (suc count) all) name))) (h.indexes name)
             (λ none. none)
             (λ x i. index_added_is (ledger_part name count all) (log (drop (suc count) all) name) e x entry_first i (tied name count all) (added_sound (Logged name e) next name) follows_added)))
         | inr other ↦
-            subst (IsIndexed (ledger_part ledger (suc count) all)) (sym (find-changed-other name ledger (index_added e) pairs other))
-            (subst (λ p. IsIndexed p (find name_order ledger pairs)) (sym (unmoved (Logged name e) next ledger refl (ap (λ b. cond b (e ∷ []) []) (bytes_differ name ledger (λ same. other (sym same)))))) (h.indexes ledger))
+            subst (IsIndexed (ledger_part ledger (suc count) all)) (sym (get-changed-other name ledger (index_added e) ledgers other))
+            (subst (λ p. IsIndexed p (get ledgers ledger)) (sym (unmoved (Logged name e) next ledger refl (ap (λ b. cond b (e ∷ []) []) (bytes_differ name ledger (λ same. other (sym same)))))) (h.indexes ledger))
       ];
     }
 
@@ -314,26 +303,34 @@ module _ (all : List Event) (count : ℕ) (pairs : Pairs) (h : IsBook all count 
       records = i.records;
     }
 
-    made_added : IsBook all (suc count) (put_changed info.name index_made pairs)
+    made_added : IsBook all (suc count) (put_changed info.name index_made ledgers)
     made_added = record {
       within = next_within (Made info) next;
       grown = h.grown;
-      in_order = order-changed info.name index_made pairs h.in_order;
       indexes = λ ledger. elim (same_or_not ledger info.name) [
         | inl same ↦
-            subst (λ l. IsIndexed (ledger_part l (suc count) all) (find name_order l (put_changed info.name index_made pairs))) (sym same)
-            (subst (λ p. IsIndexed p (find name_order info.name (put_changed info.name index_made pairs))) (sym made_part)
-            (changed_holds info.name index_made pairs (IsIndexed (ledger_part info.name count all)) (IsIndexed (record (ledger_part info.name count all) { there = true })) (h.indexes info.name) (λ none. none) index_made_is))
+            subst (λ l. IsIndexed (ledger_part l (suc count) all) (get (put_changed info.name index_made ledgers) l)) (sym same)
+            (subst (λ p. IsIndexed p (get (put_changed info.name index_made ledgers) info.name)) (sym made_part)
+            (changed_holds info.name index_made ledgers (IsIndexed (ledger_part info.name count all)) (IsIndexed (record (ledger_part info.name count all) { there = true })) (h.indexes info.name) (λ none. none) index_made_is))
         | inr other ↦
-            subst (IsIndexed (ledger_part ledger (suc count) all)) (sym (find-changed-other info.name ledger index_made pairs other))
-            (subst (λ p. IsIndexed p (find name_order ledger pairs)) (sym (unmoved (Made info) next ledger (bytes_differ info.name ledger (λ same. other (sym same))) refl)) (h.indexes ledger))
+            subst (IsIndexed (ledger_part ledger (suc count) all)) (sym (get-changed-other info.name ledger index_made ledgers other))
+            (subst (λ p. IsIndexed p (get ledgers ledger)) (sym (unmoved (Made info) next ledger (bytes_differ info.name ledger (λ same. other (sym same))) refl)) (h.indexes ledger))
       ];
     }
 
-  pub event_can_add : (event : Event) → slice_get all count ≡ Some event → CanAddEvent pairs event
+  pub event_can_add : (event : Event) → slice_get all count ≡ Some event → CanAddEvent ledgers event
   event_can_add (Made info) next = tt
   event_can_add (Logged name e) next = entry_can_add name e next
 
-  pub event_added_is : (event : Event) → slice_get all count ≡ Some event → IsBook all (suc count) (event_added event pairs)
+  pub event_added_is : (event : Event) → slice_get all count ≡ Some event → IsBook all (suc count) (event_added event ledgers)
   event_added_is (Made info) next = made_added info next
   event_added_is (Logged name e) next = entry_added name e next
+
+-- no event
+pub empty_book : (all : List Event) (ledgers : Ledgers) → all ≡ [] → ledgers ≡ empty → IsBook all 0 ledgers
+empty_book all ledgers none is = record {
+  within = omega arith;
+  grown = subst IsGrown (sym none) (record { each = λ k event h. absurd (not_some event h) });
+  indexes = λ ledger.
+      subst (IsIndexed (ledger_part ledger 0 all)) (sym (ap (λ t. get t ledger) is ∙ get-empty LedgerView ledger)) (ap (λ es. places_of (made_as ledger) 0 es) none);
+}

@@ -1,14 +1,13 @@
 -- What is kept of the ledgers while prepared events are given up.
-use Rattle.std.proofs.Common.{◌≡◌, ℕ, zero, suc, ◌+◌, ◌-◌, ◌<◌, ◌≤◌, Bool, true, false, cond, ◌||◌, List, [], ◌∷◌, ◌++◌, map, length, take, drop, slice_get, IsTrue, IfSome, Option, Some, None, refl, sym, ap, ap₂, subst, ◌∙◌, inl, inr, append_assoc, arith}
+use Rattle.std.proofs.Common.{◌≡◌, ℕ, zero, suc, ◌+◌, ◌-◌, ◌<◌, ◌≤◌, Bool, true, false, cond, ◌||◌, List, [], ◌∷◌, ◌++◌, map, length, take, drop, slice_get, IfSome, Option, Some, None, refl, sym, ap, ap₂, subst, ◌∙◌, inl, inr, append_assoc, arith}
 use Rattle.std.specs.Prelude.{◌⊎◌}
 use Rattle.std.specs.Option.{option_map}
 use Rattle.std.specs.List.{flat_map, list_any, take-map}
-use Rattle.std.specs.FinMap.Entries.{find}
 use Rattle.std.proofs.lemmas.List.{append-nil, length-append, length-map, take-append-drop, take-append-le}
 use Rattle.std.proofs.lemmas.List.Folds.{list_any-append}
 use Rattle.std.proofs.lemmas.Grind.{flat_map-append}
 use Rattle.std.proofs.Math.Seq.{take-append_seam}
-use Rattle.lg_containers.specs.NameOrder.{name_order, is_in_order}
+use Rattle.lg_containers.specs.NameTable.{get}
 use Rattle.lg_meta.specs.Index.{changes_of}
 use Rattle.lg_meta.specs.MetaFold.{changes_about}
 use Rattle.lg_types.specs.declared.records.Entry.{Entry}
@@ -29,14 +28,14 @@ use Rattle.lg_book.specs.FirstVolumes.{entry_volumes}
 use Rattle.lg_book.specs.Following.{MayFollowLog, MayFollow, IsGrown}
 use Rattle.lg_book.specs.Reading.{reverted_by}
 use Rattle.lg_book.specs.Index.{places_of, made_as, event_transactions, changed_at, LedgerPart, ledger_part, LedgerView, entry_place, first_volumes, transaction_place, all_volumes, IsRecord, IsIndex, IsIndexed, IsBook, with_none_prepared, target_forgotten, records_forgotten, index_forgotten, put_changed}
-use Rattle.lg_book.specs.Writing.{Pairs, event_forgotten, events_forgotten}
+use Rattle.lg_book.specs.Writing.{Ledgers, event_forgotten, events_forgotten}
 use Rattle.lg_book.proofs.Lists.{some_same, not_some, slice_get-take, slice_get-taken, slice_get_within_length, changed_cases, map-changed, take-snoc, there_within}
-use Rattle.lg_book.proofs.Pairs.{order-taken, find-taken_here, find-taken_other}
+use Rattle.lg_book.proofs.LedgerMaps.{get-taken_here, get-taken_other}
 use Rattle.lg_book.proofs.Places.{length-places, places-append}
 use Rattle.lg_book.proofs.Sound.{own_changes, changed_id, target_id, no_own_changes, next_id, same_bytes}
 use Rattle.lg_book.proofs.RecordSteps.{about-cons}
 use Rattle.lg_book.proofs.IndexSteps.{IsTied, tied, transactions-events, record_count, entry_count}
-use Rattle.lg_book.proofs.BookSteps.{same_or_not, bytes_differ, no_made, prefix_absent, order-changed, changed_holds, find-changed-other, drop-next}
+use Rattle.lg_book.proofs.BookSteps.{same_or_not, bytes_differ, no_made, prefix_absent, changed_holds, get-changed-other, drop-next}
 use Rattle.lg_book.proofs.FoundRecords.{none_made}
 
 -- ---- lists
@@ -179,8 +178,8 @@ index_loosened left p e x later h = record {
 
 -- ---- all ledgers
 
-abbrev Facts : List Event → ℕ → List Event → Pairs → Type 0
-Facts rest count all pairs = (ledger : List ℕ) → Forgetting (log rest ledger) (is_there rest ledger) (kept_part ledger count all) (find name_order ledger pairs)
+abbrev Facts : List Event → ℕ → List Event → Ledgers → Type 0
+Facts rest count all ledgers = (ledger : List ℕ) → Forgetting (log rest ledger) (is_there rest ledger) (kept_part ledger count all) (get ledgers ledger)
 
 -- an event that was prepared, and not added
 abbrev IsLate : ℕ → List Event → Event → Type 0
@@ -194,15 +193,15 @@ same_state left more making still p o e f h = subst (λ b. Forgetting more b p o
 gone : (left : List Entry) (making : Bool) (p : LedgerPart) (o : Option LedgerView) → o ≡ None → p.made ≡ [] → Forgetting left making p o
 gone left making p o e none = subst (Forgetting left making p) (sym e) (Gone none)
 
-made_given_up : (count : ℕ) (all rest : List Event) (info : _) (pairs : Pairs) → IsLate count all (Made info) → Facts (Made info ∷ rest) count all pairs → Facts rest count all (event_forgotten (Made info) pairs)
-made_given_up count all rest info pairs late h ledger =
+made_given_up : (count : ℕ) (all rest : List Event) (info : _) (ledgers : Ledgers) → IsLate count all (Made info) → Facts (Made info ∷ rest) count all ledgers → Facts rest count all (event_forgotten (Made info) ledgers)
+made_given_up count all rest info ledgers late h ledger =
     elim (same_or_not ledger info.name) [
       | inl same ↦
-          gone (log rest ledger) (is_there rest ledger) (kept_part ledger count all) _ (ap (λ l. find name_order l (event_forgotten (Made info) pairs)) same ∙ find-taken_here info.name pairs)
+          gone (log rest ledger) (is_there rest ledger) (kept_part ledger count all) _ (ap (λ l. get (event_forgotten (Made info) ledgers) l) same ∙ get-taken_here info.name ledgers)
           (no_made ledger 0 (take count all) (ap (is_there (take count all)) same ∙ late))
       | inr other ↦
-          subst (Forgetting (log rest ledger) (is_there rest ledger) (kept_part ledger count all)) (sym (find-taken_other info.name ledger pairs other))
-          (same_state _ _ _ _ (kept_part ledger count all) (find name_order ledger pairs) refl (ap (λ b. b || is_there rest ledger) (bytes_differ info.name ledger (λ same. other (sym same)))) (h ledger))
+          subst (Forgetting (log rest ledger) (is_there rest ledger) (kept_part ledger count all)) (sym (get-taken_other info.name ledger ledgers other))
+          (same_state _ _ _ _ (kept_part ledger count all) (get ledgers ledger) refl (ap (λ b. b || is_there rest ledger) (bytes_differ info.name ledger (λ same. other (sym same)))) (h ledger))
     ]
 
 entry_state : (left : List Entry) (making : Bool) (p : LedgerPart) (e : Entry) (x : LedgerView) → IfSome (body_transaction e.body) (λ t. length (transactions p.added) < t.id) → Forgetting (e ∷ left) making p (Some x) → Forgetting left making p (Some (index_forgotten e.body x))
@@ -212,33 +211,28 @@ entry_state left making p e x later (Stays _ h) = Stays (index_forgotten e.body 
 none_state : (left more : List Entry) (making : Bool) (p : LedgerPart) → Forgetting left making p None → Forgetting more making p None
 none_state left more making p (Gone none) = Gone none
 
-entry_given_up : (count : ℕ) (all rest : List Event) (name : List ℕ) (e : Entry) (pairs : Pairs) → IsLate count all (Logged name e) → Facts (Logged name e ∷ rest) count all pairs → Facts rest count all (event_forgotten (Logged name e) pairs)
-entry_given_up count all rest name e pairs late h ledger =
+entry_given_up : (count : ℕ) (all rest : List Event) (name : List ℕ) (e : Entry) (ledgers : Ledgers) → IsLate count all (Logged name e) → Facts (Logged name e ∷ rest) count all ledgers → Facts rest count all (event_forgotten (Logged name e) ledgers)
+entry_given_up count all rest name e ledgers late h ledger =
     elim (same_or_not ledger name) [
       | inl same ↦
-          subst (λ l. Forgetting (log rest l) (is_there rest l) (kept_part l count all) (find name_order l (event_forgotten (Logged name e) pairs))) (sym same)
-          (changed_holds name (index_forgotten e.body) pairs (Forgetting (e ∷ log rest name) (is_there rest name) (kept_part name count all)) (Forgetting (log rest name) (is_there rest name) (kept_part name count all))
-          (same_state _ _ _ _ (kept_part name count all) (find name_order name pairs) (ap (λ b. cond b (e ∷ []) [] ++ log rest name) (same_bytes name)) refl (h name))
+          subst (λ l. Forgetting (log rest l) (is_there rest l) (kept_part l count all) (get (event_forgotten (Logged name e) ledgers) l)) (sym same)
+          (changed_holds name (index_forgotten e.body) ledgers (Forgetting (e ∷ log rest name) (is_there rest name) (kept_part name count all)) (Forgetting (log rest name) (is_there rest name) (kept_part name count all))
+          (same_state _ _ _ _ (kept_part name count all) (get ledgers name) (ap (λ b. cond b (e ∷ []) [] ++ log rest name) (same_bytes name)) refl (h name))
           (none_state _ _ _ _)
           (λ x. entry_state (log rest name) (is_there rest name) (kept_part name count all) e x (subst (λ g. IfSome (body_transaction e.body) (λ t. length (transactions g) < t.id)) (sym (kept_added name count all)) late)))
       | inr other ↦
-          subst (Forgetting (log rest ledger) (is_there rest ledger) (kept_part ledger count all)) (sym (find-changed-other name ledger (index_forgotten e.body) pairs other))
-          (same_state _ _ _ _ (kept_part ledger count all) (find name_order ledger pairs) (ap (λ b. cond b (e ∷ []) [] ++ log rest ledger) (bytes_differ name ledger (λ same. other (sym same)))) refl (h ledger))
+          subst (Forgetting (log rest ledger) (is_there rest ledger) (kept_part ledger count all)) (sym (get-changed-other name ledger (index_forgotten e.body) ledgers other))
+          (same_state _ _ _ _ (kept_part ledger count all) (get ledgers ledger) (ap (λ b. cond b (e ∷ []) [] ++ log rest ledger) (bytes_differ name ledger (λ same. other (sym same)))) refl (h ledger))
     ]
 
-given_up : (count : ℕ) (all rest : List Event) (event : Event) (pairs : Pairs) → IsLate count all event → Facts (event ∷ rest) count all pairs → Facts rest count all (event_forgotten event pairs)
-given_up count all rest (Made info) pairs late h = made_given_up count all rest info pairs late h
-given_up count all rest (Logged name e) pairs late h = entry_given_up count all rest name e pairs late h
+given_up : (count : ℕ) (all rest : List Event) (event : Event) (ledgers : Ledgers) → IsLate count all event → Facts (event ∷ rest) count all ledgers → Facts rest count all (event_forgotten event ledgers)
+given_up count all rest (Made info) ledgers late h = made_given_up count all rest info ledgers late h
+given_up count all rest (Logged name e) ledgers late h = entry_given_up count all rest name e ledgers late h
 
-all_given_up : (count : ℕ) (all rest : List Event) (pairs : Pairs) → ((j : ℕ) (event : Event) → slice_get rest j ≡ Some event → IsLate count all event) → Facts rest count all pairs → Facts [] count all (events_forgotten rest pairs)
-all_given_up count all [] pairs late h = h
-all_given_up count all (event ∷ rest) pairs late h =
-    all_given_up count all rest (event_forgotten event pairs) (λ j other is. late (suc j) other is) (given_up count all rest event pairs (late 0 event refl) h)
-
-order_given_up : (rest : List Event) (pairs : Pairs) → IsTrue (is_in_order pairs) → IsTrue (is_in_order (events_forgotten rest pairs))
-order_given_up [] pairs h = h
-order_given_up (Made info ∷ rest) pairs h = order_given_up rest _ (order-taken info.name pairs h)
-order_given_up (Logged name e ∷ rest) pairs h = order_given_up rest _ (order-changed name (index_forgotten e.body) pairs h)
+all_given_up : (count : ℕ) (all rest : List Event) (ledgers : Ledgers) → ((j : ℕ) (event : Event) → slice_get rest j ≡ Some event → IsLate count all event) → Facts rest count all ledgers → Facts [] count all (events_forgotten rest ledgers)
+all_given_up count all [] ledgers late h = h
+all_given_up count all (event ∷ rest) ledgers late h =
+    all_given_up count all rest (event_forgotten event ledgers) (λ j other is. late (suc j) other is) (given_up count all rest event ledgers (late 0 event refl) h)
 
 -- ---- prepared events are late
 
@@ -269,7 +263,7 @@ slice_get-drop (suc n) (x ∷ xs) k = slice_get-drop n xs k ∙ ap (slice_get (x
 
 -- ---- at the beginning
 
-module _ (all : List Event) (count : ℕ) (pairs : Pairs) (h : IsBook all count pairs) (ledger : List ℕ) where
+module _ (all : List Event) (count : ℕ) (ledgers : Ledgers) (h : IsBook all count ledgers) (ledger : List ℕ) where
   kept_log : log (take count (take count all)) ledger ≡ log (take count all) ledger
   kept_log = kept_added ledger count all
 
@@ -356,13 +350,12 @@ length_front zero xs h = omega arith
 length_front (suc n) [] h = absurd (omega arith)
 length_front (suc n) (x ∷ xs) h = let r : n ≤ length (take n xs) = length_front n xs (omega arith) in omega (arith, r)
 
-pub forgotten_is : (all : List Event) (count : ℕ) (pairs : Pairs) → IsBook all count pairs → IsBook (take count all) count (events_forgotten (drop count all) pairs)
-forgotten_is all count pairs h = record {
+pub forgotten_is : (all : List Event) (count : ℕ) (ledgers : Ledgers) → IsBook all count ledgers → IsBook (take count all) count (events_forgotten (drop count all) ledgers)
+forgotten_is all count ledgers h = record {
   within = length_front count all h.within;
   grown = grown_front count all h.grown;
-  in_order = order_given_up (drop count all) pairs h.in_order;
-  indexes = λ ledger. last_state (kept_part ledger count all) (find name_order ledger (events_forgotten (drop count all) pairs)) (ap (λ es. log es ledger) (drop_take count all))
-      (all_given_up count all (drop count all) pairs
+  indexes = λ ledger. last_state (kept_part ledger count all) (get (events_forgotten (drop count all) ledgers) ledger) (ap (λ es. log es ledger) (drop_take count all))
+      (all_given_up count all (drop count all) ledgers
       (λ j event is. late_event count (count + j) all event (omega arith) (h.grown.each (count + j) event (sym (slice_get-drop count all j) ∙ is)))
-      (λ l. first_state all count pairs h l (find name_order l pairs) (h.indexes l)) ledger);
+      (λ l. first_state all count ledgers h l (get ledgers l) (h.indexes l)) ledger);
 }

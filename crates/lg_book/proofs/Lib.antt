@@ -1,5 +1,5 @@
 mod Lists
-mod Pairs
+mod LedgerMaps
 mod Places
 mod FoundRecords
 mod BookReads

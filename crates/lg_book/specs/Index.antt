@@ -6,12 +6,11 @@
 --                                  stand, and the parts of its log that were added and that are prepared
 --     LedgerView                   what is kept of a ledger
 --     IsIndex, IsBook              that it stands for the ledger, and that all of it stands for the events
-use Rattle.std.specs.Prelude.{◌≡◌, ℕ, zero, suc, ◌+◌, ◌-◌, ◌<◌, ◌≤◌, ℤ, ◌≤ℤ◌, Bool, true, false, if◌then◌else◌, List, [], ◌∷◌, ◌++◌, map, take, drop, length, slice_get, IsTrue, IsSome, IfSome, Option, Some, None}
+use Rattle.std.specs.Prelude.{◌≡◌, ℕ, zero, suc, ◌+◌, ◌-◌, ◌<◌, ◌≤◌, ℤ, ◌≤ℤ◌, Bool, true, false, if◌then◌else◌, List, [], ◌∷◌, ◌++◌, map, take, drop, length, slice_get, IsSome, IfSome, Option, Some, None}
 use Rattle.std.specs.Option.{option_map}
 use Rattle.std.specs.List.{flat_map}
 use Rattle.std.specs.Str.{bytes_eq}
-use Rattle.std.specs.FinMap.Entries.{find, put}
-use Rattle.lg_containers.specs.NameOrder.{name_order, is_in_order}
+use Rattle.lg_containers.specs.NameTable.{NameTable, get, insert}
 use Rattle.lg_meta.specs.History.{History, first_applied}
 use Rattle.lg_meta.specs.Index.{changes_of}
 use Rattle.lg_meta.specs.MetaFold.{changes_about, last_date}
@@ -120,11 +119,10 @@ abbrev pub IsIndexed : LedgerPart → Option LedgerView → Type 0
 IsIndexed part None = part.made ≡ []
 IsIndexed part (Some x) = IsIndex part x
 
-pub record IsBook (all : List Event) (count : ℕ) (ledgers : List (List ℕ × LedgerView)) : Type 0 where
+pub record IsBook (all : List Event) (count : ℕ) (ledgers : NameTable LedgerView) : Type 0 where
   pub within : count ≤ length all
   pub grown : IsGrown all
-  pub in_order : IsTrue (is_in_order ledgers)
-  pub indexes : (ledger : List ℕ) → IsIndexed (ledger_part ledger count all) (find name_order ledger ledgers)
+  pub indexes : (ledger : List ℕ) → IsIndexed (ledger_part ledger count all) (get ledgers ledger)
 
 -- ---- what an event does to it
 
@@ -201,13 +199,13 @@ index_added e x = record x { logged = x.logged + 1; transactions = records_added
 abbrev pub index_forgotten : EntryBody → LedgerView → LedgerView
 index_forgotten body x = record x { entries = take x.logged x.entries; transactions = take x.transacted (records_forgotten body x.transactions) }
 
--- the pairs with the value of a name changed, where the name is there
-abbrev pub put_if : List ℕ → Option LedgerView → List (List ℕ × LedgerView) → List (List ℕ × LedgerView)
-put_if name None pairs = pairs
-put_if name (Some x) pairs = put name_order name x pairs
+-- the ledgers with the one of a name changed, where the name is there
+abbrev pub put_if : List ℕ → Option LedgerView → NameTable LedgerView → NameTable LedgerView
+put_if name None ledgers = ledgers
+put_if name (Some x) ledgers = insert ledgers name x
 
-abbrev pub put_changed : List ℕ → (LedgerView → LedgerView) → List (List ℕ × LedgerView) → List (List ℕ × LedgerView)
-put_changed name change pairs = put_if name (option_map change (find name_order name pairs)) pairs
+abbrev pub put_changed : List ℕ → (LedgerView → LedgerView) → NameTable LedgerView → NameTable LedgerView
+put_changed name change ledgers = put_if name (option_map change (get ledgers name)) ledgers
 
 -- ---- what the records must have for that
 

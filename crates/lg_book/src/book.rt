@@ -13,8 +13,8 @@ ghost use Rattle.lg_book.specs.Following.{MayFollow, IsGrown};
 ghost use Rattle.lg_book.specs.Reading.{ledger_of, count_entries, count_transactions, find_entry, transaction_at, inserted_at, reverted_by as reverting_id};
 
 use crate::changing::{add_event, forget_events, prepare_event};
-use crate::ledger_index::{LedgerIndex, push_within};
-use crate::ledgers::find_ledger;
+use crate::ledger_index::push_within;
+use crate::ledgers::Ledgers;
 use crate::opening::first_ledger;
 use crate::readings::{
     counted, date_in, entry_in, event_at, history_in, info_in, inserted_in, last_hash_in, reply_in,
@@ -22,6 +22,7 @@ use crate::readings::{
 };
 use crate::volumes::FirstVolumes;
 use lg_containers::{LedgerName, Shared};
+use lg_maps::NameMap;
 use lg_meta::MetaHistory;
 use lg_turns::Journal;
 use lg_types::{Entry, Event, LedgerInfo, NoMemory, Target, Transaction, bring};
@@ -38,8 +39,7 @@ pub struct Book {
     // The events that were added, and then the prepared ones.
     events: Vec<Shared<Event>>,
     added: usize,
-    // In the byte order of the names.
-    ledgers: Vec<(LedgerName, LedgerIndex)>,
+    ledgers: Ledgers,
 }
 
 impl Model for Book {
@@ -51,7 +51,7 @@ impl Model for Book {
 
     ghost view = { λ b. record { events = take b.added b.events.items; prepared = drop b.added b.events.items } };
 
-    ghost invariant = { λ b. IsBook b.events.items b.added b.ledgers.items };
+    ghost invariant = { λ b. IsBook b.events.items b.added b.ledgers };
 }
 
 impl Book {
@@ -74,7 +74,7 @@ impl Book {
             alloc,
             events: Vec::new(alloc),
             added: 0,
-            ledgers: Vec::new(alloc),
+            ledgers: NameMap::new(alloc),
         }
     }
 
@@ -101,7 +101,7 @@ impl Book {
     pub fn ledger(&self, name: &LedgerName) -> Option<&LedgerInfo>
         ensures { option_copied result ≡ ledger_of self.now.events name.now }
     {
-        match find_ledger(&self.ledgers, name.bytes()) {
+        match self.ledgers.find(name.bytes()) {
             None => None,
             Some(index) => info_in(&self.events, index),
         }
@@ -111,7 +111,7 @@ impl Book {
     pub fn log_len(&self, name: &LedgerName) -> Option<u64>
         ensures { result ≡ count_entries self.now.events name.now }
     {
-        match find_ledger(&self.ledgers, name.bytes()) {
+        match self.ledgers.find(name.bytes()) {
             None => None,
             Some(index) => counted(index.is_there(), index.logged()),
         }
@@ -121,7 +121,7 @@ impl Book {
     pub fn transactions(&self, name: &LedgerName) -> Option<u64>
         ensures { result ≡ count_transactions self.now.events name.now }
     {
-        match find_ledger(&self.ledgers, name.bytes()) {
+        match self.ledgers.find(name.bytes()) {
             None => None,
             Some(index) => counted(index.is_there(), index.transacted()),
         }
@@ -131,7 +131,7 @@ impl Book {
     pub fn entry(&self, name: &LedgerName, id: u64) -> Option<&Entry>
         ensures { option_copied result ≡ find_entry (log self.now.events name.now) id }
     {
-        match find_ledger(&self.ledgers, name.bytes()) {
+        match self.ledgers.find(name.bytes()) {
             None => None,
             Some(index) => entry_in(&self.events, index, id),
         }
@@ -141,7 +141,7 @@ impl Book {
     pub fn transaction(&self, name: &LedgerName, id: u64) -> Option<&Transaction>
         ensures { option_copied result ≡ transaction_at (log self.now.events name.now) id }
     {
-        match find_ledger(&self.ledgers, name.bytes()) {
+        match self.ledgers.find(name.bytes()) {
             None => None,
             Some(index) => transaction_in(&self.events, index, id),
         }
@@ -151,7 +151,7 @@ impl Book {
     pub fn inserted(&self, name: &LedgerName, id: u64) -> Option<i64>
         ensures { result ≡ inserted_at (log self.now.events name.now) id }
     {
-        match find_ledger(&self.ledgers, name.bytes()) {
+        match self.ledgers.find(name.bytes()) {
             None => None,
             Some(index) => inserted_in(&self.events, index, id),
         }
@@ -161,7 +161,7 @@ impl Book {
     pub fn reverted_by(&self, name: &LedgerName, id: u64) -> Option<u64>
         ensures { result ≡ reverting_id (log self.now.events name.now) id }
     {
-        match find_ledger(&self.ledgers, name.bytes()) {
+        match self.ledgers.find(name.bytes()) {
             None => None,
             Some(index) => reverted_in(index, id),
         }
@@ -172,7 +172,7 @@ impl Book {
         ensures there { is_some result ≡ is_some (find_transaction (log self.now.events name.now) id) }
         ensures changes { IfSome result (λ history. history.now.changes ≡ changes_about (Target.Transaction id) (log self.now.events name.now)) }
     {
-        match find_ledger(&self.ledgers, name.bytes()) {
+        match self.ledgers.find(name.bytes()) {
             None => None,
             Some(index) => history_in(index, id),
         }
@@ -182,7 +182,7 @@ impl Book {
     pub fn head(&self, name: &LedgerName) -> Option<[u8; 32]>
         ensures { result ≡ head_of (log self.now.events name.now) }
     {
-        match find_ledger(&self.ledgers, name.bytes()) {
+        match self.ledgers.find(name.bytes()) {
             None => None,
             Some(index) => last_hash_in(&self.events, index),
         }
@@ -193,7 +193,7 @@ impl Book {
     pub fn date_for(&self, name: &LedgerName, now: i64) -> i64
         ensures { result ≡ date_of_log (log self.now.events name.now) now }
     {
-        match find_ledger(&self.ledgers, name.bytes()) {
+        match self.ledgers.find(name.bytes()) {
             None => bring(&now),
             Some(index) => date_in(&self.events, index, now),
         }
@@ -205,7 +205,7 @@ impl Book {
         requires { IsSome (find_entry (log self.now.events name.now) entry) }
         ensures { IfOk result (λ reply. IfSome (find_entry (log self.now.events name.now) entry) (λ e. reply ≡ plain (first_reply_of (up_to (log self.now.events name.now) e) e))) }
     {
-        match find_ledger(&self.ledgers, name.bytes()) {
+        match self.ledgers.find(name.bytes()) {
             None => unreachable!(),
             Some(index) => reply_in(self.alloc, &self.events, index, entry),
         }

@@ -1,30 +1,27 @@
 //! What an event does to the ledgers, when it is prepared, added or given up.
 
-ghost use Rattle.std.specs.Prelude.{◌≡◌, IsTrue, OnOk, OnErr};
-ghost use Rattle.lg_containers.specs.NameOrder.{is_in_order};
+ghost use Rattle.std.specs.Prelude.{◌≡◌, OnOk, OnErr};
 ghost use Rattle.lg_book.specs.Writing.{CanAddEvent, CanPrepareEvent, event_added, event_forgotten, event_prepared, events_forgotten};
 
-use crate::ledger_index::LedgerIndex;
 use crate::ledgers::{
-    add_logged, add_made, forget_logged, forget_made, prepare_logged, prepare_made,
+    Ledgers, add_logged, add_made, forget_logged, forget_made, prepare_logged, prepare_made,
 };
 use crate::volumes::FirstVolumes;
-use lg_containers::{LedgerName, Shared};
+use lg_containers::Shared;
 use lg_types::{Event, NoMemory};
 use std::alloc::Global;
 
 /// Prepares the event of the place.
 pub(crate) fn prepare_event(
     alloc: Global,
-    ledgers: &mut Vec<(LedgerName, LedgerIndex)>,
+    ledgers: &mut Ledgers,
     place: usize,
     event: &Event,
     volumes: &Shared<FirstVolumes>,
 ) -> Result<(), NoMemory>
-    requires order { IsTrue (is_in_order ledgers.old.items) }
-    requires may { CanPrepareEvent ledgers.old.items event.now }
-    ensures ok { OnOk result (ledgers.new.items ≡ event_prepared place event.now volumes.now ledgers.old.items) }
-    ensures err { OnErr result (ledgers.new.items ≡ ledgers.old.items) }
+    requires { CanPrepareEvent ledgers.old event.now }
+    ensures ok { OnOk result (ledgers.new ≡ event_prepared place event.now volumes.now ledgers.old) }
+    ensures err { OnErr result (ledgers.new ≡ ledgers.old) }
 {
     match event {
         Event::Made(info) => prepare_made(alloc, ledgers, &info.name, place),
@@ -35,10 +32,9 @@ pub(crate) fn prepare_event(
 }
 
 /// Adds the first prepared event, which is the one given. Takes no memory.
-pub(crate) fn add_event(ledgers: &mut Vec<(LedgerName, LedgerIndex)>, event: &Event)
-    requires order { IsTrue (is_in_order ledgers.old.items) }
-    requires may { CanAddEvent ledgers.old.items event.now }
-    ensures { ledgers.new.items ≡ event_added event.now ledgers.old.items }
+pub(crate) fn add_event(ledgers: &mut Ledgers, event: &Event)
+    requires { CanAddEvent ledgers.old event.now }
+    ensures { ledgers.new ≡ event_added event.now ledgers.old }
 {
     match event {
         Event::Made(info) => add_made(ledgers, &info.name),
@@ -46,10 +42,8 @@ pub(crate) fn add_event(ledgers: &mut Vec<(LedgerName, LedgerIndex)>, event: &Ev
     }
 }
 
-fn forget_event(ledgers: &mut Vec<(LedgerName, LedgerIndex)>, event: &Event)
-    requires { IsTrue (is_in_order ledgers.old.items) }
-    ensures value { ledgers.new.items ≡ event_forgotten event.now ledgers.old.items }
-    ensures order { IsTrue (is_in_order ledgers.new.items) }
+fn forget_event(ledgers: &mut Ledgers, event: &Event)
+    ensures { ledgers.new ≡ event_forgotten event.now ledgers.old }
 {
     match event {
         Event::Made(info) => forget_made(ledgers, &info.name),
@@ -58,9 +52,8 @@ fn forget_event(ledgers: &mut Vec<(LedgerName, LedgerIndex)>, event: &Event)
 }
 
 /// Gives up the prepared events.
-pub(crate) fn forget_events(ledgers: &mut Vec<(LedgerName, LedgerIndex)>, events: &[Shared<Event>])
-    requires { IsTrue (is_in_order ledgers.old.items) }
-    ensures { ledgers.new.items ≡ events_forgotten events.now ledgers.old.items }
+pub(crate) fn forget_events(ledgers: &mut Ledgers, events: &[Shared<Event>])
+    ensures { ledgers.new ≡ events_forgotten events.now ledgers.old }
 {
     for event in events {
         forget_event(ledgers, event.get());

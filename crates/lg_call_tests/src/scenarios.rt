@@ -3,7 +3,7 @@
 use crate::asked_book::told_by_book;
 use crate::asked_shards::{is_of_shards, told_by_shards};
 use crate::words::number_of;
-use lg_codec::status_of;
+use lg_replies::status_of;
 use lg_request_tests::{Request, body_text, call_of, midnight};
 use lg_store::Solo;
 use lg_types::{Call, LedgerName};

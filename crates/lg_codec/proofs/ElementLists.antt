@@ -4,7 +4,7 @@ use Rattle.std.proofs.lemmas.List.{take_more}
 use Rattle.lg_json.specs.declared.json.Json.{Json}
 use Rattle.lg_json.specs.Tree.{tree}
 use Rattle.lg_types.specs.declared.calls.Element.{Element}
-use Rattle.lg_views.specs.Elements.{AreElements, IsElement, count}
+use Rattle.lg_readings.specs.Elements.{AreElements, IsElement, count}
 use Rattle.lg_codec.specs.Seen.{items_seen}
 
 -- one more element

@@ -6,8 +6,8 @@ use Rattle.lg_json.specs.Tree.Tree.{text}
 use Rattle.lg_json.specs.declared.json.Json.{Json, fold-roll-Json}
 use Rattle.lg_json.specs.declared.json.Json.TheOpen.{Json-F}
 use Rattle.lg_json.specs.declared.json.Json.TheVariants as variants
-use Rattle.lg_views.specs.EntryLines.{Hash, HashText}
-use Rattle.lg_views.specs.Paths.{Path}
+use Rattle.lg_readings.specs.EntryLines.{Hash, HashText}
+use Rattle.lg_readings.specs.Paths.{Path}
 use Rattle.lg_codec.specs.Results.{Reads}
 use Rattle.lg_codec.specs.declared.stop.CodecStop.{CodecStop}
 use Rattle.lg_codec.proofs.Readings.{onward}

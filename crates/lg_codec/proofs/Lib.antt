@@ -1,6 +1,4 @@
 pub mod ElementLists
-pub mod Escaping
 pub mod Hashes
-pub mod Nested
 pub mod Onward
 pub mod Readings

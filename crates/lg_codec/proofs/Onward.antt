@@ -9,12 +9,12 @@ use Rattle.lg_json.specs.declared.json.Json.TheFolds.{fold_out-Member}
 use Rattle.lg_json.specs.Tree.{Tree, Trees, Members, Entry, level, entry_level, tree, entry, entries, trees}
 use Rattle.lg_types.specs.declared.records.Posting.{Posting}
 use Rattle.lg_types.specs.declared.refusals.Refusal.{Refusal}
-use Rattle.lg_views.specs.Answers.{Answer, Then}
+use Rattle.lg_readings.specs.Answers.{Answer, Then}
 use Rattle.lg_codec.specs.Results.{Reads}
 use Rattle.lg_codec.proofs.Readings.{err_is}
 use Rattle.std.specs.Result.{IsErrAnd}
-use Rattle.lg_views.specs.Bodies.{AccountMetaOf, AccountIn, WithAccounts, PostingOf, WithPostings}
-use Rattle.lg_views.specs.Paths.{Path, item_below}
+use Rattle.lg_readings.specs.Bodies.{AccountMetaOf, AccountIn, WithAccounts, PostingOf, WithPostings}
+use Rattle.lg_readings.specs.Paths.{Path, item_below}
 use Rattle.lg_codec.specs.Seen.{members_seen, items_seen}
 use Rattle.lg_codec.specs.declared.stop.CodecStop.{CodecStop}
 use Rattle.lg_codec.specs.declared.stop.CodecStop.TheVariants.{Refused, NoMemory}

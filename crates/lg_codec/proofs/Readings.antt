@@ -1,14 +1,14 @@
 -- How readings compose.
 use Rattle.std.proofs.Common.{◌≡◌, ℕ, List, [], ◌∷◌, length, refl, sym, subst, ◌∙◌, ap}
-use Rattle.std.specs.Prelude.{Result, Ok, Err}
+use Rattle.std.specs.Prelude.{Result, Ok, Err, Bool, true, false, ◌==◌}
 use Rattle.std.specs.Result.{IsErrAnd}
 use Rattle.lg_types.specs.declared.refusals.Refusal.{Refusal}
 use Rattle.std.specs.Prelude.{Some}
-use Rattle.lg_views.specs.Answers.{Answer, wrong, Then, IfForm, known, gives}
+use Rattle.lg_readings.specs.Answers.{Answer, wrong, Then, IfForm, known, gives}
 use Rattle.lg_codec.specs.Results.{Reads}
-use Rattle.lg_views.specs.Paths.{Path}
-use Rattle.lg_views.specs.Values.{SomeName}
-use Rattle.lg_views.specs.Bodies.{no_members}
+use Rattle.lg_readings.specs.Paths.{Path}
+use Rattle.lg_readings.specs.Values.{SomeName}
+use Rattle.lg_readings.specs.Bodies.{no_members}
 use Rattle.lg_json.specs.Tree.{Members}
 use Rattle.lg_json.specs.declared.json.Member.{Member}
 use Rattle.lg_types.specs.declared.refusals.Reason.TheVariants.{Form}
@@ -52,6 +52,10 @@ unread R {r = Err NoMemory} is = record { answers = tt }
 pub refused : {B : Type 0} (R : Answer B → Type 0) {refusal : Refusal} {e : CodecStop} → StopsWith refusal e → R (Err refusal) → Reads R (Err e)
 refused R {refusal = refusal} {e = Refused r} stops p = record { answers = subst (λ (x : Refusal). R (Err x)) (sym stops) p }
 refused R {e = NoMemory} stops p = record { answers = tt }
+
+-- a test for 0 that failed
+pub not_zero : (r : Bool) (n : ℕ) → r ≡ (n == 0) → r ≡ false → ¬ (n ≡ 0)
+not_zero r n e f z = let t : r ≡ true = e ∙ ap (λ (k : ℕ). k == 0) z in cc
 
 -- a name that isn't empty
 pub named : (Names : List ℕ → Type 0) (path : Path) (bytes : List ℕ) {r : Result _ CodecStop} → ¬ (length bytes ≡ 0)

@@ -1,12 +1,6 @@
-pub mod AmountParts
-pub mod Escaping
-pub mod MessageTexts
 pub mod PathParts
 pub mod PathTexts
-pub mod RefusalParts
-pub mod ReplyParts
 pub mod Results
 pub mod Seen
 pub mod Stops
-pub mod ViewParts
 pub mod Writes

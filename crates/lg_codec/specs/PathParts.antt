@@ -1,7 +1,7 @@
 -- The paths of what stands in a body.
 use Rattle.std.specs.Prelude.{ℕ, List, codes}
-use Rattle.lg_views.specs.Paths.{top, below, item_below}
-use Rattle.lg_views.specs.Paths as paths
+use Rattle.lg_readings.specs.Paths.{top, below, item_below}
+use Rattle.lg_readings.specs.Paths as paths
 use Rattle.lg_codec.specs.declared.path_parts.Base.{Base}
 use Rattle.lg_codec.specs.declared.path_parts.Base.TheVariants.{Body, Data, Transaction}
 use Rattle.lg_codec.specs.declared.path_parts.Holder.{Holder}

@@ -1,6 +1,6 @@
 -- The answer of a call that reads.
 use Rattle.std.specs.Prelude.{Result, Ok, Err}
-use Rattle.lg_views.specs.Answers.{Answer}
+use Rattle.lg_readings.specs.Answers.{Answer}
 use Rattle.lg_codec.specs.declared.stop.CodecStop.{CodecStop}
 use Rattle.lg_codec.specs.declared.stop.CodecStop.TheVariants.{Refused, NoMemory}
 

@@ -4,10 +4,10 @@ use Rattle.lg_json.specs.Tree.{Tree}
 use Rattle.lg_types.specs.declared.calls.Write.{Write}
 use Rattle.lg_types.specs.declared.calls.Write.TheVariants.{Revert, SetMeta}
 use Rattle.lg_types.specs.declared.records.Target.{Target}
-use Rattle.lg_views.specs.Answers.{Answer, known, gives, ◌>>=◌}
-use Rattle.lg_views.specs.Bodies.{Creation, texts_of, revert_of}
-use Rattle.lg_views.specs.Paths.{top}
-use Rattle.lg_views.specs.Values.{present}
+use Rattle.lg_readings.specs.Answers.{Answer, known, gives, ◌>>=◌}
+use Rattle.lg_readings.specs.Bodies.{Creation, texts_of, revert_of}
+use Rattle.lg_readings.specs.Paths.{top}
+use Rattle.lg_readings.specs.Values.{present}
 use Rattle.lg_codec.specs.declared.kind.WriteKind.{WriteKind}
 use Rattle.lg_codec.specs.declared.kind.WriteKind.TheVariants as kinds
 

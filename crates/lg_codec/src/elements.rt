@@ -2,9 +2,9 @@
 
 ghost use Rattle.std.specs.Prelude.{◌≡◌, ◌≤◌, length, codes, IfOk};
 ghost use Rattle.lg_json.specs.Tree.{tree};
-ghost use Rattle.lg_views.specs.Answers.{known};
+ghost use Rattle.lg_readings.specs.Answers.{known};
 ghost use Rattle.lg_codec.specs.Results.{Reads};
-ghost use Rattle.lg_views.specs.Elements as spec;
+ghost use Rattle.lg_readings.specs.Elements as spec;
 ghost use Rattle.lg_codec.specs.PathParts.{path_of};
 ghost use Rattle.lg_codec.specs.Seen.{value_seen, members_seen, items_seen};
 

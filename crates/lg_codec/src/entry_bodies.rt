@@ -2,11 +2,11 @@
 
 ghost use Rattle.std.specs.Prelude.{Some, codes};
 ghost use Rattle.lg_json.specs.Tree.{tree};
-ghost use Rattle.lg_views.specs.Answers.{known};
+ghost use Rattle.lg_readings.specs.Answers.{known};
 ghost use Rattle.lg_codec.specs.Results.{Reads};
-ghost use Rattle.lg_views.specs.EntryLines as lines;
+ghost use Rattle.lg_readings.specs.EntryLines as lines;
 ghost use Rattle.lg_codec.specs.PathParts.{base_path, path_of};
-ghost use Rattle.lg_views.specs.Paths.{below};
+ghost use Rattle.lg_readings.specs.Paths.{below};
 ghost use Rattle.lg_codec.specs.Seen.{value_seen, members_seen, items_seen};
 
 use crate::metadata::{accounts_of, texts_of};
@@ -18,8 +18,8 @@ use crate::transactions::postings_in;
 use crate::values::{id_of, moment_of, name_of, same_bytes, text_of, under};
 use lg_containers::List;
 use lg_json::{Json, Member};
+use lg_readings::EntryType;
 use lg_types::{EntryBody, Posting, Postings, Reason, Reference, Transaction};
-use lg_views::EntryType;
 use std::alloc::Global;
 
 /// The postings, at least one.

@@ -2,9 +2,9 @@
 
 ghost use Rattle.std.specs.Prelude.{◌≡◌, Some, true, length};
 ghost use Rattle.lg_json.specs.Tree.{tree};
-ghost use Rattle.lg_views.specs.Answers.{known, IfForm};
+ghost use Rattle.lg_readings.specs.Answers.{known, IfForm};
 ghost use Rattle.lg_codec.specs.Results.{Reads};
-ghost use Rattle.lg_views.specs.EntryLines as lines;
+ghost use Rattle.lg_readings.specs.EntryLines as lines;
 ghost use Rattle.lg_codec.specs.PathParts.{path_of};
 ghost use Rattle.lg_codec.specs.Seen.{value_seen, members_seen};
 
@@ -16,8 +16,8 @@ use crate::values::{id_of, moment_of, optional_name_of, under};
 use base64::DecodeAllocError;
 use base64::engine::general_purpose::STANDARD;
 use lg_json::{Json, Member};
+use lg_readings::ReadEntry;
 use lg_types::{Entry, Key, KeyMark, Reason};
-use lg_views::ReadEntry;
 use std::alloc::Global;
 
 fn hash_from(bytes: &[u8]) -> [u8; 32]

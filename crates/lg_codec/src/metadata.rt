@@ -2,14 +2,14 @@
 
 ghost use Rattle.lg_json.specs.Tree.{tree};
 ghost use Rattle.lg_containers.specs.NameTable as table;
-ghost use Rattle.lg_views.specs.Answers.{known};
+ghost use Rattle.lg_readings.specs.Answers.{known};
 ghost use Rattle.lg_codec.specs.Results.{Reads};
 ghost use Rattle.lg_codec.specs.PathParts.{base_path, holder_path};
-ghost use Rattle.lg_views.specs.Paths.{below, path_text};
+ghost use Rattle.lg_readings.specs.Paths.{below, path_text};
 ghost use Rattle.lg_codec.specs.Stops.{StopsWith};
 ghost use Rattle.lg_types.specs.declared.refusals.Refusal.TheVariants.{Member as MemberRefusal};
 ghost use Rattle.lg_codec.specs.Seen.{value_seen, members_seen};
-ghost use Rattle.lg_views.specs.Bodies as bodies;
+ghost use Rattle.lg_readings.specs.Bodies as bodies;
 ghost use Rattle.std.specs.Prelude.{codes};
 
 use crate::path_parts::{Base, Holder, Path};

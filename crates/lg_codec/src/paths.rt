@@ -3,7 +3,7 @@
 ghost use Rattle.std.specs.Prelude.{◌≡◌, ◌++◌, codes, IfOk};
 ghost use Rattle.std.specs.List.{flat_map};
 ghost use Rattle.lg_types.specs.declared.refusals.Refusal.TheVariants.{Member as MemberRefusal};
-ghost use Rattle.lg_views.specs.Paths.{path_text as text_of_path, below};
+ghost use Rattle.lg_readings.specs.Paths.{path_text as text_of_path, below};
 ghost use Rattle.lg_codec.specs.PathParts.{base_path, holder_path, path_of};
 ghost use Rattle.lg_codec.specs.PathTexts.{prefix_text};
 ghost use Rattle.lg_codec.specs.Stops.{StopsWith};

@@ -1,11 +1,11 @@
 //! Reading what metadata are about.
 
 ghost use Rattle.std.specs.Prelude.{◌≡◌, codes};
-ghost use Rattle.lg_views.specs.Answers.{known};
+ghost use Rattle.lg_readings.specs.Answers.{known};
 ghost use Rattle.lg_codec.specs.Results.{Reads};
-ghost use Rattle.lg_views.specs.Elements as elements;
+ghost use Rattle.lg_readings.specs.Elements as elements;
 ghost use Rattle.lg_codec.specs.PathParts.{base_path, path_of};
-ghost use Rattle.lg_views.specs.Paths.{below};
+ghost use Rattle.lg_readings.specs.Paths.{below};
 ghost use Rattle.lg_codec.specs.Seen.{value_seen, members_seen};
 
 use crate::path_parts::{Base, Holder, Path};

@@ -2,12 +2,12 @@
 
 ghost use Rattle.std.specs.Prelude.{◌≡◌, [], codes};
 ghost use Rattle.lg_json.specs.Tree.{tree};
-ghost use Rattle.lg_views.specs.Answers.{known, wrong as wrong_answer};
+ghost use Rattle.lg_readings.specs.Answers.{known, wrong as wrong_answer};
 ghost use Rattle.lg_codec.specs.Results.{Reads};
 ghost use Rattle.lg_codec.specs.PathParts.{base_path};
-ghost use Rattle.lg_views.specs.Paths.{below, item_below};
+ghost use Rattle.lg_readings.specs.Paths.{below, item_below};
 ghost use Rattle.lg_codec.specs.Seen.{value_seen, members_seen, items_seen};
-ghost use Rattle.lg_views.specs.Bodies as bodies;
+ghost use Rattle.lg_readings.specs.Bodies as bodies;
 
 use crate::metadata::{optional_accounts_of, optional_texts_of};
 use crate::path_parts::{Base, Holder, Path};

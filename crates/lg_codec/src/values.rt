@@ -2,11 +2,11 @@
 
 ghost use Rattle.std.specs.Prelude.{◌≡◌, ◌^◌, bytes_eq};
 ghost use Rattle.lg_json.specs.Tree.{tree};
-ghost use Rattle.lg_views.specs.Answers.{known, IfForm};
+ghost use Rattle.lg_readings.specs.Answers.{known, IfForm};
 ghost use Rattle.lg_codec.specs.Results.{Reads};
 ghost use Rattle.lg_codec.specs.PathParts.{path_of};
 ghost use Rattle.lg_codec.specs.Seen.{value_seen, members_seen};
-ghost use Rattle.lg_views.specs.Values as values;
+ghost use Rattle.lg_readings.specs.Values as values;
 
 use crate::path_parts::Path;
 use crate::paths::wrong;

@@ -2,13 +2,13 @@
 
 ghost use Rattle.std.specs.Prelude.{◌≡◌, IfOk, codes};
 ghost use Rattle.lg_json.specs.Tree.{tree};
-ghost use Rattle.lg_views.specs.Answers.{known};
+ghost use Rattle.lg_readings.specs.Answers.{known};
 ghost use Rattle.lg_codec.specs.Results.{Reads};
 ghost use Rattle.lg_codec.specs.PathParts.{path_of};
-ghost use Rattle.lg_views.specs.Paths.{top, below};
+ghost use Rattle.lg_readings.specs.Paths.{top, below};
 ghost use Rattle.lg_codec.specs.Seen.{value_seen, members_seen};
 ghost use Rattle.lg_codec.specs.Writes as asked;
-ghost use Rattle.lg_views.specs.Bodies as bodies;
+ghost use Rattle.lg_readings.specs.Bodies as bodies;
 
 use crate::kind::WriteKind;
 use crate::metadata::{optional_texts_of, texts_of};

@@ -1,7 +1,7 @@
 //! Calls, written as lines of scripts.
 
 use lg_batch::{Script, read_script};
-use lg_lists::Lists;
+use lg_pages::Lists;
 use lg_types::{Call, Duplicate, Meta, Postings, Transaction, Write};
 use lg_views::ScriptLine;
 use std::alloc::Global;

@@ -14,10 +14,10 @@ use Rattle.lg_types.specs.declared.records.EntryBody.{EntryBody}
 use Rattle.lg_types.specs.declared.records.EntryBody.TheVariants.{NewTransaction, SetMetadata, Reverted, DeleteMetadata}
 use Rattle.lg_types.specs.declared.records.Target.{Target}
 use Rattle.lg_types.specs.declared.records.Target.TheVariants.{Account, Transaction as TransactionOf}
-use Rattle.lg_views.specs.Paths.{Path, below}
-use Rattle.lg_views.specs.Elements.{data_path, TargetIn}
-use Rattle.lg_views.specs.EntryLines.{BodyIn}
-use Rattle.lg_views.specs.declared.readings.EntryType.TheVariants as types
+use Rattle.lg_readings.specs.Paths.{Path, below}
+use Rattle.lg_readings.specs.Elements.{data_path, TargetIn}
+use Rattle.lg_readings.specs.EntryLines.{BodyIn}
+use Rattle.lg_readings.specs.declared.readings.EntryType.TheVariants as types
 use Rattle.lg_entry_lines.specs.Laws.{GivesOnly}
 use Rattle.lg_entry_lines.specs.Records.{IsTarget, IsBody}
 use Rattle.lg_entry_lines.proofs.Metadata.{meta_tree, meta_is_object, meta_fits, meta_reads, account_meta_tree, account_meta_is_object, account_meta_fits, accounts_read}

@@ -21,11 +21,11 @@ use Rattle.lg_types.specs.PartTexts.{hash_text, date_text, optional_text}
 use Rattle.lg_types.specs.declared.forms.EntryForm.TheVariants.{Line, FirstLine}
 use Rattle.lg_types.specs.declared.records.Entry.{Entry}
 use Rattle.lg_types.specs.declared.records.KeyMark.{KeyMark}
-use Rattle.lg_views.specs.Paths.{Path, top, below}
-use Rattle.lg_views.specs.Answers.{known}
-use Rattle.lg_views.specs.Values.{under, id_of, SomeName}
-use Rattle.lg_views.specs.Checked.{Shows}
-use Rattle.lg_views.specs.EntryLines.{form_of, MarkIn, LineHash, LineIn}
+use Rattle.lg_readings.specs.Paths.{Path, top, below}
+use Rattle.lg_readings.specs.Answers.{known}
+use Rattle.lg_readings.specs.Values.{under, id_of, SomeName}
+use Rattle.lg_readings.specs.Checked.{Shows}
+use Rattle.lg_readings.specs.EntryLines.{form_of, MarkIn, LineHash, LineIn}
 use Rattle.lg_entry_lines.specs.Laws.{GivesOnly, ReadsAs, EntryReadsBack, FirstLineReadsBack}
 use Rattle.lg_entry_lines.specs.Records.{IsHash, IsMark, IsEntry}
 use Rattle.lg_entry_lines.proofs.Bodies.{type_name, data_members, body_members, body_object, data_fits, body_reads}

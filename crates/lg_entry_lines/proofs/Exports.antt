@@ -8,13 +8,13 @@ use Rattle.lg_types.specs.PartTexts.{date_text, hash_text, optional_text}
 use Rattle.std.specs.List.{AllByRecursion, AllZip, concat, filter, enumerate_from, slice_split, onto_first}
 use Rattle.lg_json.specs.Tree.{Tree}
 use Rattle.lg_types.specs.declared.records.Entry.{Entry}
-use Rattle.lg_views.specs.Answers.{Answer}
-use Rattle.lg_views.specs.Checked.{is_newline, has_bytes, IsReadAs, IsLine, IsNumberedLine}
-use Rattle.lg_views.specs.EntryLines.{LineOf}
+use Rattle.lg_readings.specs.Answers.{Answer}
+use Rattle.lg_readings.specs.Checked.{is_newline, has_bytes, IsReadAs, IsLine, IsNumberedLine}
+use Rattle.lg_readings.specs.EntryLines.{LineOf}
 use Rattle.lg_views.specs.Import.{ReadLine, Read, NumberedLine, export, checked_lines}
 use Rattle.lg_views.specs.Laws.{lines_from}
 use Rattle.lg_views.specs.ReplyTexts.{line_text}
-use Rattle.lg_views.specs.declared.readings.ReadEntry.{ReadEntry}
+use Rattle.lg_readings.specs.declared.readings.ReadEntry.{ReadEntry}
 use Rattle.lg_views.proofs.ReadBack.{reads_back}
 use Rattle.lg_entry_lines.specs.Laws.{ReadsAs, ExportReadsBack}
 use Rattle.lg_entry_lines.specs.Records.{IsEntry}

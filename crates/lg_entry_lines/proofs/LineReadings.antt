@@ -10,10 +10,10 @@ use Rattle.lg_json.specs.declared.json.JsonFault.TheVariants.{Syntax, NotWhole, 
 use Rattle.lg_types.specs.declared.records.Entry.{Entry}
 use Rattle.lg_types.specs.declared.refusals.ImportCause.TheVariants as causes
 use Rattle.lg_types.specs.declared.refusals.Refusal.{Refusal}
-use Rattle.lg_views.specs.Answers.{Answer}
-use Rattle.lg_views.specs.Checked.{Shows}
-use Rattle.lg_views.specs.EntryLines.{LineOf}
-use Rattle.lg_views.specs.declared.readings.ReadEntry.{ReadEntry}
+use Rattle.lg_readings.specs.Answers.{Answer}
+use Rattle.lg_readings.specs.Checked.{Shows}
+use Rattle.lg_readings.specs.EntryLines.{LineOf}
+use Rattle.lg_readings.specs.declared.readings.ReadEntry.{ReadEntry}
 use Rattle.lg_entry_lines.specs.Laws.{GivesOnly, ReadsAs}
 use Rattle.lg_entry_lines.specs.Lines.{IsReadLine, IsReadValue, IsFaultOf, Found}
 use Rattle.lg_entry_lines.specs.declared.lines.LineFault.{LineFault}

@@ -9,8 +9,8 @@ use Rattle.lg_json.specs.Grammar.{IsValue, Fits}
 use Rattle.lg_json.specs.Tree.{Tree}
 use Rattle.lg_json.specs.Tree.Tree.{text, members}
 use Rattle.lg_types.specs.EntryTexts.{meta_text, account_meta_text}
-use Rattle.lg_views.specs.Paths.{Path, below}
-use Rattle.lg_views.specs.Bodies.{with_texts, texts_of, AccountIn, WithAccounts, Accounts}
+use Rattle.lg_readings.specs.Paths.{Path, below}
+use Rattle.lg_readings.specs.Bodies.{with_texts, texts_of, AccountIn, WithAccounts, Accounts}
 use Rattle.lg_entry_lines.specs.Laws.{GivesOnly}
 use Rattle.lg_entry_lines.specs.Records.{IsTextPair, IsMeta, IsAccountPair, IsAccountMeta}
 use Rattle.lg_entry_lines.proofs.Names.{address_utf8}

@@ -15,16 +15,16 @@ use Rattle.lg_time.proofs.Facts.{moment_unique}
 use Rattle.lg_types.specs.declared.calls.Element.{Element}
 use Rattle.lg_types.specs.declared.records.Posting.{Posting}
 use Rattle.lg_types.specs.declared.refusals.Reason.TheVariants.{Missing, Kind}
-use Rattle.lg_views.specs.declared.readings.EntryType.{EntryType}
-use Rattle.lg_views.specs.declared.readings.EntryType.TheVariants as types
+use Rattle.lg_readings.specs.declared.readings.EntryType.{EntryType}
+use Rattle.lg_readings.specs.declared.readings.EntryType.TheVariants as types
 use Rattle.lg_views.specs.declared.replies.Action.{Action}
 use Rattle.lg_views.specs.declared.replies.Action.TheVariants as actions
-use Rattle.lg_views.specs.Paths.{Path, top, below, item_below}
-use Rattle.lg_views.specs.Answers.{Answer, wrong, known, gives, Then, GoesOn, IfForm}
-use Rattle.lg_views.specs.Values as values
-use Rattle.lg_views.specs.Bodies as bodies
-use Rattle.lg_views.specs.Elements as elements
-use Rattle.lg_views.specs.EntryLines as lines
+use Rattle.lg_readings.specs.Paths.{Path, top, below, item_below}
+use Rattle.lg_readings.specs.Answers.{Answer, wrong, known, gives, Then, GoesOn, IfForm}
+use Rattle.lg_readings.specs.Values as values
+use Rattle.lg_readings.specs.Bodies as bodies
+use Rattle.lg_readings.specs.Elements as elements
+use Rattle.lg_readings.specs.EntryLines as lines
 use Rattle.lg_entry_lines.specs.AnswerLaws.{HasOneAnswer, WritesHaveOneAnswer, LedgersHaveOneAnswer, ElementsHaveOneAnswer, LinesHaveOneAnswer}
 use Rattle.lg_entry_lines.proofs.Hashes.{same_hash}
 

@@ -9,10 +9,10 @@ use Rattle.lg_time.specs.Canonical.{moment_text}
 use Rattle.lg_time.specs.Moment.{IsInMoments}
 use Rattle.lg_time.proofs.CanonicalLemmas.{moment_text_is}
 use Rattle.lg_time.proofs.Facts.{moment_unique}
-use Rattle.lg_views.specs.Paths.{Path}
-use Rattle.lg_views.specs.Answers.{Answer, known, gives, Then, GoesOn, IfForm}
-use Rattle.lg_views.specs.Values.{number_of, Name, Moment, MomentText}
-use Rattle.lg_views.specs.EntryLines.{Hash, HashText}
+use Rattle.lg_readings.specs.Paths.{Path}
+use Rattle.lg_readings.specs.Answers.{Answer, known, gives, Then, GoesOn, IfForm}
+use Rattle.lg_readings.specs.Values.{number_of, Name, Moment, MomentText}
+use Rattle.lg_readings.specs.EntryLines.{Hash, HashText}
 use Rattle.lg_entry_lines.specs.Laws.{GivesOnly}
 use Rattle.lg_entry_lines.specs.Records.{IsHash}
 use Rattle.lg_entry_lines.proofs.Hashes.{same_hash}

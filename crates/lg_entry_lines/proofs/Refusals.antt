@@ -12,19 +12,19 @@ use Rattle.lg_types.specs.declared.records.Posting.{Posting}
 use Rattle.lg_types.specs.declared.refusals.Reason.{Reason}
 use Rattle.lg_types.specs.declared.refusals.Reason.TheVariants.{Missing, Kind, Form}
 use Rattle.lg_types.specs.declared.refusals.Refusal.TheVariants.{Member}
-use Rattle.lg_views.specs.declared.readings.EntryType.{EntryType}
-use Rattle.lg_views.specs.declared.readings.EntryType.TheVariants as types
+use Rattle.lg_readings.specs.declared.readings.EntryType.{EntryType}
+use Rattle.lg_readings.specs.declared.readings.EntryType.TheVariants as types
 use Rattle.lg_containers.specs.AddressGrammar.{IsAddress}
 use Rattle.lg_containers.specs.AssetGrammar.{IsAsset}
 use Rattle.lg_containers.specs.CountedGrammar.{IsKey}
 use Rattle.lg_containers.specs.NameTable as table
 use Rattle.lg_containers.specs.ReferenceGrammar.{IsReference}
-use Rattle.lg_views.specs.Paths.{Path, path_text, top, below, item_below}
-use Rattle.lg_views.specs.Answers.{Answer, wrong, known, gives, Then, GoesOn, IfForm}
-use Rattle.lg_views.specs.Values as values
-use Rattle.lg_views.specs.Bodies as bodies
-use Rattle.lg_views.specs.Elements as elements
-use Rattle.lg_views.specs.EntryLines as lines
+use Rattle.lg_readings.specs.Paths.{Path, path_text, top, below, item_below}
+use Rattle.lg_readings.specs.Answers.{Answer, wrong, known, gives, Then, GoesOn, IfForm}
+use Rattle.lg_readings.specs.Values as values
+use Rattle.lg_readings.specs.Bodies as bodies
+use Rattle.lg_readings.specs.Elements as elements
+use Rattle.lg_readings.specs.EntryLines as lines
 use Rattle.lg_entry_lines.specs.Laws.{IsMemberRefusal, LinesRefuseMembers}
 
 -- a refusal, where the answer is one, is that of a member

@@ -20,11 +20,11 @@ use Rattle.lg_types.specs.EntryTexts.{posting_text, meta_text, reference_text, t
 use Rattle.lg_types.specs.PartTexts.{date_text, optional_text}
 use Rattle.lg_types.specs.declared.records.Posting.{Posting}
 use Rattle.lg_types.specs.declared.records.Transaction.{Transaction}
-use Rattle.lg_views.specs.Paths.{Path, below, item_below}
-use Rattle.lg_views.specs.Answers.{gives}
-use Rattle.lg_views.specs.Values.{under, Moment}
-use Rattle.lg_views.specs.Bodies.{PostingOf, WithPostings}
-use Rattle.lg_views.specs.EntryLines.{one_or_more, PostingsOf, ReferenceOf, TransactionIn, TransactionOf, transaction_path}
+use Rattle.lg_readings.specs.Paths.{Path, below, item_below}
+use Rattle.lg_readings.specs.Answers.{gives}
+use Rattle.lg_readings.specs.Values.{under, Moment}
+use Rattle.lg_readings.specs.Bodies.{PostingOf, WithPostings}
+use Rattle.lg_readings.specs.EntryLines.{one_or_more, PostingsOf, ReferenceOf, TransactionIn, TransactionOf, transaction_path}
 use Rattle.lg_entry_lines.specs.Laws.{GivesOnly}
 use Rattle.lg_entry_lines.specs.Records.{IsId, IsPosting, IsTransaction}
 use Rattle.lg_entry_lines.proofs.Metadata.{meta_tree, meta_is_object, meta_fits, meta_reads}

@@ -3,10 +3,10 @@ use Rattle.std.specs.Prelude.{◌≡◌, Bool}
 use Rattle.lg_codec.specs.Writes.{WriteOf}
 use Rattle.lg_codec.specs.declared.kind.WriteKind.{WriteKind}
 use Rattle.lg_json.specs.Tree.{Tree}
-use Rattle.lg_views.specs.Answers.{Answer}
-use Rattle.lg_views.specs.Bodies.{LedgerOf}
-use Rattle.lg_views.specs.Elements.{ElementsOf}
-use Rattle.lg_views.specs.EntryLines.{LineOf}
+use Rattle.lg_readings.specs.Answers.{Answer}
+use Rattle.lg_readings.specs.Bodies.{LedgerOf}
+use Rattle.lg_readings.specs.Elements.{ElementsOf}
+use Rattle.lg_readings.specs.EntryLines.{LineOf}
 
 -- the reading has at most one answer
 pub record HasOneAnswer {A : Type 0} (reading : Answer A → Type 0) : Type 0 where

@@ -10,9 +10,9 @@ use Rattle.lg_types.specs.declared.records.Entry.{Entry}
 use Rattle.lg_types.specs.declared.refusals.Reason.{Reason}
 use Rattle.lg_types.specs.declared.refusals.Refusal.{Refusal}
 use Rattle.lg_types.specs.declared.refusals.Refusal.TheVariants.{Member}
-use Rattle.lg_views.specs.Answers.{Answer}
-use Rattle.lg_views.specs.Checked.{Shows, IsChecked}
-use Rattle.lg_views.specs.EntryLines.{LineOf}
+use Rattle.lg_readings.specs.Answers.{Answer}
+use Rattle.lg_readings.specs.Checked.{Shows, IsChecked}
+use Rattle.lg_readings.specs.EntryLines.{LineOf}
 use Rattle.lg_views.specs.Import.{IsImportable, export}
 use Rattle.lg_views.specs.ReplyTexts.{line_text}
 use Rattle.lg_entry_lines.specs.Records.{IsEntry}

@@ -5,9 +5,9 @@ use Rattle.lg_json.specs.declared.json.JsonFault.{JsonFault}
 use Rattle.lg_json.specs.declared.json.JsonFault.TheVariants.{NoMemory as NoRoom}
 use Rattle.lg_types.specs.declared.refusals.ImportCause.TheVariants.{Json}
 use Rattle.lg_types.specs.declared.refusals.Refusal.{Refusal}
-use Rattle.lg_views.specs.declared.readings.ReadEntry.{ReadEntry}
-use Rattle.lg_views.specs.Checked.{IsLine, IsCause}
-use Rattle.lg_views.specs.EntryLines.{LineOf}
+use Rattle.lg_readings.specs.declared.readings.ReadEntry.{ReadEntry}
+use Rattle.lg_readings.specs.Checked.{IsLine, IsCause}
+use Rattle.lg_readings.specs.EntryLines.{LineOf}
 use Rattle.lg_views.specs.Import.{Read, Unread}
 use Rattle.lg_entry_lines.specs.declared.lines.LineFault.{LineFault}
 use Rattle.lg_entry_lines.specs.declared.lines.LineFault.TheVariants.{Bad, NoMemory}

@@ -5,5 +5,5 @@ pub mod laws;
 mod lines;
 pub mod parts;
 
-pub use lg_views::ReadEntry;
+pub use lg_readings::ReadEntry;
 pub use lines::{LineFault, entry_of_line};

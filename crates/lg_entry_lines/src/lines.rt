@@ -5,7 +5,7 @@ ghost use Rattle.lg_json.specs.Tree.{tree};
 ghost use Rattle.lg_types.specs.EntryTexts.{entry_text};
 ghost use Rattle.lg_types.specs.declared.forms.EntryForm.TheVariants.{Line, FirstLine};
 ghost use Rattle.lg_types.specs.declared.records.Entry.{Entry};
-ghost use Rattle.lg_views.specs.Checked.{IsCause};
+ghost use Rattle.lg_readings.specs.Checked.{IsCause};
 ghost use Rattle.lg_views.specs.Import.{Unread};
 ghost use Rattle.lg_entry_lines.specs.Laws.{IsMemberRefusal};
 ghost use Rattle.lg_entry_lines.specs.Lines.{IsReadLine, IsReadValue, IsFaultOf, Found};
@@ -13,8 +13,8 @@ ghost use Rattle.lg_entry_lines.specs.Records.{IsEntry};
 
 use lg_codec::{CodecStop, entry_of_json};
 use lg_json::{Json, JsonFault, read};
+use lg_readings::ReadEntry;
 use lg_types::{ImportCause, Refusal};
-use lg_views::ReadEntry;
 use std::alloc::Global;
 
 /// Why a line isn't read.

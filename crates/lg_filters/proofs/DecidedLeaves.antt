@@ -16,7 +16,7 @@ use Rattle.lg_types.specs.declared.filters.Value.{Value}
 use Rattle.lg_types.specs.declared.filters.Value.TheVariants as value
 use Rattle.lg_time.specs.Moment.{IsMoment}
 use Rattle.lg_views.specs.Tokens.{op_name, field_name}
-use Rattle.lg_views.specs.FilterReadings.{one, compares_field, has_metadata, IsFieldInGrammar, ShowsText, ShowsWhole, ShowsMoment, ShowsTruth, ShowsValue, IsComparison, IsLeaf}
+use Rattle.lg_readings.specs.FilterReadings.{one, compares_field, has_metadata, IsFieldInGrammar, ShowsText, ShowsWhole, ShowsMoment, ShowsTruth, ShowsValue, IsComparison, IsLeaf}
 use Rattle.lg_filters.proofs.Moments.{both, either, by_test, dec_bytes, dec_moment}
 use Rattle.lg_filters.proofs.FieldNames.{op_of, op_of_name, field_of, field_of_name}
 use Rattle.lg_filters.proofs.LeafParts.{same_name, same_value, no_leaf}

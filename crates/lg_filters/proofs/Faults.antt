@@ -7,8 +7,8 @@ use Rattle.lg_json.specs.Tree.Tree.{null, truth, whole, part, text, list, member
 use Rattle.lg_json.specs.Tree.Trees.{none, item}
 use Rattle.lg_json.specs.Tree.Members.{no_member, member}
 use Rattle.lg_types.specs.declared.filters.ListKind.{ListKind}
-use Rattle.lg_views.specs.Paths.{Path, below, at_item, path_text}
-use Rattle.lg_views.specs.FilterReadings.{one, is_of_list, LeafFault, FirstOf, FilterFault, ListFault, ItemsFault}
+use Rattle.lg_readings.specs.Paths.{Path, below, at_item, path_text}
+use Rattle.lg_readings.specs.FilterReadings.{one, is_of_list, LeafFault, FirstOf, FilterFault, ListFault, ItemsFault}
 use Rattle.lg_filters.proofs.DecidedLeaves.{dec_leaf}
 
 -- a fault of a kind

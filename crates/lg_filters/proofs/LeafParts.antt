@@ -10,7 +10,7 @@ use Rattle.lg_types.specs.declared.filters.Op.{Op}
 use Rattle.lg_types.specs.declared.filters.Field.{Field}
 use Rattle.lg_types.specs.declared.filters.Value.{Value}
 use Rattle.lg_views.specs.Tokens.{op_name, field_name}
-use Rattle.lg_views.specs.FilterReadings.{one, IsLeaf, IsComparison, compares_field, ShowsValue}
+use Rattle.lg_readings.specs.FilterReadings.{one, IsLeaf, IsComparison, compares_field, ShowsValue}
 use Rattle.lg_filters.specs.Parts.{NamesOp, NamesField}
 use Rattle.lg_filters.proofs.FieldNames.{same_field, same_op, compares_op}
 use Rattle.lg_codec.specs.Seen.{members_seen}

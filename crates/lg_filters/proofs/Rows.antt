@@ -9,7 +9,7 @@ use Rattle.lg_types.specs.declared.filters.Filter.{Filter, Row_of-Filter, end_of
 use Rattle.lg_types.specs.declared.filters.Filter as F
 use Rattle.lg_types.specs.declared.filters.Filter.TheBlock as block
 use denote.Hole.Carrier.{hidden}
-use Rattle.lg_views.specs.FilterReadings.{one, IsFilter, AreFilters}
+use Rattle.lg_readings.specs.FilterReadings.{one, IsFilter, AreFilters}
 use Rattle.lg_filters.specs.AtPaths.{AreFiltersOf}
 
 row_are : (kind : ListKind) {n : _} (row : Row_of-Filter n) (ts : Trees) → AreFiltersOf kind (block.items-the_row-Filter n row) ts → AreFilters kind row ts

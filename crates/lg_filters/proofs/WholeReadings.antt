@@ -12,9 +12,9 @@ use Rattle.lg_json.specs.Tree.Members.{no_member, member}
 use Rattle.lg_types.specs.declared.filters.ListKind.{ListKind}
 use Rattle.lg_types.specs.declared.filters.Filter.{Filter, Both, Either, Not}
 use Rattle.lg_types.specs.declared.refusals.Refusal.TheVariants.{BadFilter}
-use Rattle.lg_views.specs.Answers.{Answer}
-use Rattle.lg_views.specs.Paths.{Path, below, at_item, path_text}
-use Rattle.lg_views.specs.FilterReadings.{one, is_of_list, IsFilter, LeafFault, FilterFault, ListFault, ItemsFault}
+use Rattle.lg_readings.specs.Answers.{Answer}
+use Rattle.lg_readings.specs.Paths.{Path, below, at_item, path_text}
+use Rattle.lg_readings.specs.FilterReadings.{one, is_of_list, IsFilter, LeafFault, FilterFault, ListFault, ItemsFault}
 use Rattle.lg_codec.specs.Results.{Reads}
 use Rattle.lg_codec.specs.Stops.{StopsWith}
 use Rattle.lg_codec.specs.Seen.{members_seen, items_seen}

@@ -7,9 +7,9 @@ use Rattle.lg_json.specs.Tree.Trees.{none, item}
 use Rattle.lg_types.specs.declared.filters.ListKind.{ListKind}
 use Rattle.lg_types.specs.declared.filters.Filter.{Filter}
 use Rattle.lg_types.specs.declared.refusals.Refusal.TheVariants.{BadFilter}
-use Rattle.lg_views.specs.Answers.{Answer}
-use Rattle.lg_views.specs.Paths.{Path}
-use Rattle.lg_views.specs.FilterReadings.{one, is_of_list, IsFilter, LeafFault, FilterFault, ListFault, ItemsFault}
+use Rattle.lg_readings.specs.Answers.{Answer}
+use Rattle.lg_readings.specs.Paths.{Path}
+use Rattle.lg_readings.specs.FilterReadings.{one, is_of_list, IsFilter, LeafFault, FilterFault, ListFault, ItemsFault}
 
 abbrev pub ReadsBy : {A : Type 0} → (A → Type 0) → (Option (List ℕ) → Type 0) → Answer A → Type 0
 ReadsBy Shows Fault (Ok a) = Shows a × Fault None

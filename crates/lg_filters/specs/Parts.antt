@@ -9,7 +9,7 @@ use Rattle.lg_types.specs.declared.filters.Field.{Field}
 use Rattle.lg_types.specs.declared.filters.Field.TheVariants as field
 use Rattle.lg_types.specs.declared.filters.Filter.{Filter, Has}
 use Rattle.lg_views.specs.Tokens.{op_name, field_name, in_brackets}
-use Rattle.lg_views.specs.FilterReadings.{IsFieldInGrammar, IsFilter, IsLeaf}
+use Rattle.lg_readings.specs.FilterReadings.{IsFieldInGrammar, IsFilter, IsLeaf}
 
 -- what is shown, or none where nothing is
 abbrev pub IsRead : {A : Type 0} → (A → Type 0) → Option A → Type 0

@@ -2,7 +2,7 @@
 
 ghost use Rattle.std.specs.Prelude.{◌≡◌};
 ghost use Rattle.lg_types.specs.declared.filters.ListKind.TheVariants.{Accounts, Transactions, Logs, Volumes, Aggregate};
-ghost use Rattle.lg_views.specs.FilterReadings as spec;
+ghost use Rattle.lg_readings.specs.FilterReadings as spec;
 
 use lg_types::{Field, ListKind, Op};
 

@@ -4,7 +4,7 @@ ghost use Rattle.std.specs.Prelude.{IfOk, codes};
 ghost use Rattle.lg_json.specs.Tree.{tree, Tree};
 ghost use Rattle.lg_codec.specs.Seen.{members_seen};
 ghost use Rattle.lg_views.specs.Tokens.{op_name, field_name};
-ghost use Rattle.lg_views.specs.FilterReadings.{one, IsFieldInGrammar};
+ghost use Rattle.lg_readings.specs.FilterReadings.{one, IsFieldInGrammar};
 ghost use Rattle.lg_filters.specs.Parts.{ShowsLeaf, ShowsPresence};
 
 use crate::fields::{op_named, read_field, same_bytes};

@@ -3,7 +3,7 @@
 ghost use Rattle.std.specs.Prelude.{◌≡◌, ◌++◌, codes, IfOk};
 ghost use Rattle.std.specs.List.{flat_map};
 ghost use Rattle.lg_types.specs.declared.refusals.Refusal.TheVariants.{BadFilter};
-ghost use Rattle.lg_views.specs.Paths as spec;
+ghost use Rattle.lg_readings.specs.Paths as spec;
 ghost use Rattle.lg_codec.specs.Stops.{StopsWith};
 
 use itoa::Buffer;

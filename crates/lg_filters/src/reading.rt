@@ -3,7 +3,7 @@
 ghost use Rattle.lg_json.specs.Tree.{tree, Tree};
 ghost use Rattle.lg_codec.specs.Results.{Reads};
 ghost use Rattle.lg_codec.specs.Seen.{members_seen, items_seen};
-ghost use Rattle.lg_views.specs.FilterReadings.{FilterIn, FilterOf};
+ghost use Rattle.lg_readings.specs.FilterReadings.{FilterIn, FilterOf};
 ghost use Rattle.lg_filters.specs.AtPaths.{FilterAt, OperatorAt, LeafAt, ListAt, ItemsAt};
 
 use crate::fields::same_bytes;

@@ -2,7 +2,7 @@
 
 ghost use Rattle.std.specs.Prelude.{◌≡◌, IsUtf8, IfOk, OnOk};
 ghost use Rattle.lg_json.specs.Tree.{tree, Tree};
-ghost use Rattle.lg_views.specs.FilterReadings.{ShowsText, ShowsWhole, ShowsMoment, ShowsTruth, ShowsValue};
+ghost use Rattle.lg_readings.specs.FilterReadings.{ShowsText, ShowsWhole, ShowsMoment, ShowsTruth, ShowsValue};
 ghost use Rattle.lg_filters.specs.Parts.{IsRead};
 
 use lg_base::NoMemory;

@@ -15,7 +15,7 @@ use crate::script::make_script;
 use crate::summary::{Summary, feed_summary};
 use lg_base::{ByteFeed, NoMemory, Sink, Stop, Volumes, write_whole};
 use lg_batch::{RunEnd, Script, read_script};
-use lg_codec::status_of;
+use lg_replies::status_of;
 use lg_routes::ListReader;
 use lg_shard::{Shard, stripe_of};
 use lg_store::Solo;

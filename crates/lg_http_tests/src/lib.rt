@@ -1,4 +1,5 @@
-//! Tests over public calls: the heads and bodies of a connection, as they come from sources in memory.
+//! Tests over public calls: the heads, bodies and messages of a connection, as they come from sources in memory, and the
+//! texts of replies.
 #![tactic(auto)]
 
 #[cfg(test)]
@@ -9,3 +10,7 @@ mod body_tests;
 mod head_tests;
 #[cfg(test)]
 mod limit_tests;
+#[cfg(test)]
+mod message_tests;
+#[cfg(test)]
+mod reply_tests;

@@ -2,14 +2,13 @@
 #![tactic(auto)]
 
 mod kept;
-mod prepared;
 
 pub use kept::Kept;
 use lg_containers::{KeyGrammar, ReferenceGrammar};
-pub use prepared::PreparedTable;
+use lg_maps::PreparedMap;
 
 /// The idempotency keys of accepted requests, each with what is kept of its request.
-pub type KeyTable = PreparedTable<KeyGrammar, Kept>;
+pub type KeyTable = PreparedMap<KeyGrammar, Kept>;
 
 /// The references of transactions, each with its transaction's id.
-pub type ReferenceTable = PreparedTable<ReferenceGrammar, u64>;
+pub type ReferenceTable = PreparedMap<ReferenceGrammar, u64>;

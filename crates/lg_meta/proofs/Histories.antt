@@ -1,13 +1,13 @@
 -- What the calls of a history keep, and what they read.
-use Rattle.std.proofs.Common.{◌≡◌, ℕ, zero, suc, ◌+◌, ◌-◌, ◌<◌, ◌≤◌, ℤ, ◌≤ℤ◌, Bool, true, false, cond, ◌||◌, List, [], ◌∷◌, ◌++◌, length, get_or, set, take, drop, map, filter, nat_lt, unwrap_or, slice_get, IsTrue, IsSome, IfSome, OnOk, OnErr, Option, Some, None, is_some, Result, Ok, Err, refl, sym, ap, ap₂, subst, ◌∙◌, arith}
+use Rattle.std.proofs.Common.{◌≡◌, ℕ, zero, suc, ◌+◌, ◌-◌, ◌<◌, ◌≤◌, ℤ, ◌≤ℤ◌, Bool, true, false, cond, ◌||◌, List, [], ◌∷◌, ◌++◌, length, get_or, set, take, drop, map, filter, nat_lt, unwrap_or, slice_get, IsSome, IfSome, OnOk, OnErr, Option, Some, None, is_some, Result, Ok, Err, refl, sym, ap, ap₂, subst, ◌∙◌, arith}
 use Rattle.std.proofs.lemmas.List.{take_all, take_more, take-map, map-append, length-map, length-set, length-take, length-drop, length-append}
 use Rattle.std.proofs.lemmas.List.Folds.{list_any-append}
 use Rattle.std.proofs.Math.Seq.{take-suc-set, map-set_same}
 use Rattle.std.specs.List.Sorted.{IsPartitionedBy}
 use Rattle.std.specs.Ordering.{eq_by_cmp}
-use Rattle.std.specs.FinMap.Entries.{find, is_some-find}
-use Rattle.lg_containers.specs.NameOrder.{name_order, is_in_order}
-use Rattle.lg_containers.specs.NameTable.{get, get-insert, same_table}
+use Rattle.std.specs.FinMap.Entries.{is_some-find}
+use Rattle.lg_containers.specs.NameOrder.{name_order}
+use Rattle.lg_containers.specs.NameTable.{NameTable, pairs_of, empty, get, get-empty, get-pairs, get-insert, same_table}
 use Rattle.lg_meta.specs.declared.change.DatedChange.{DatedChange}
 use Rattle.lg_types.specs.Changes.{MetaOf}
 use Rattle.lg_meta.specs.History.{History}
@@ -31,7 +31,7 @@ read_here date q slice all n xs same is =
     ap₂ (λ cs ys. last_value (λ p. value_there q (slice_get (take n cs) p)) None (filter (λ p. is_there_by date (slice_get (take n cs) p)) ys)) same is
     ∙ read_at_last all n date q
 
-pub places_found : (index : List (List ℕ × List ℕ)) (q : List ℕ) (o : Option (List ℕ)) → o ≡ find name_order q index → places_in index q ≡ unwrap_or o []
+pub places_found : (index : NameTable (List ℕ)) (q : List ℕ) (o : Option (List ℕ)) → o ≡ get index q → places_in index q ≡ unwrap_or o []
 places_found index q o e = ap (λ p. unwrap_or p []) (sym e)
 
 -- a name that the index doesn't have has no value
@@ -39,9 +39,17 @@ no_find : (o : Option (List ℕ)) → is_some o ≡ false → unwrap_or o [] ≡
 no_find None h = refl
 no_find (Some v) h = absurd cc
 
-pub no_value : (date : Option ℤ) (all : List DatedChange) (n : ℕ) (index : List (List ℕ × List ℕ)) (q : List ℕ) → IsIndexed all n index → is_among q (map (λ p. p.0) index) ≡ false → get (meta_at date (take n all)) q ≡ None
+pub no_value : (date : Option ℤ) (all : List DatedChange) (n : ℕ) (index : NameTable (List ℕ)) (q : List ℕ) → IsIndexed all n index → is_among q (map (λ p. p.0) (pairs_of index)) ≡ false → get (meta_at date (take n all)) q ≡ None
 no_value date all n index q indexed h =
-    sym (read_here date q all all n [] refl (sym (no_find (find name_order q index) (is_some-find name_order q index ∙ h)) ∙ indexed.complete q))
+    sym (read_here date q all all n [] refl (sym (no_find (get index q) (ap is_some (get-pairs index q) ∙ is_some-find name_order q (pairs_of index) ∙ h)) ∙ indexed.complete q))
+
+-- no change
+pub none_indexed : (all : List DatedChange) (index : NameTable (List ℕ)) → all ≡ [] → index ≡ empty → IsIndexed all 0 index
+none_indexed all index none is = record {
+  within = omega arith;
+  rising = tt;
+  complete = λ q. ap (λ t. places_in t q) is ∙ ap (λ o. unwrap_or o []) (get-empty (List ℕ) q) ∙ ap (λ cs. places q 0 (changes_of cs)) (sym none);
+}
 
 -- one more change is applied
 pub within_first : (all : List DatedChange) (n : ℕ) → IsSome (slice_get (changes_of (drop n all)) 0) → n < length all
@@ -50,12 +58,11 @@ within_first [] (suc n) h = absurd cc
 within_first (c ∷ cs) zero h = omega arith
 within_first (c ∷ cs) (suc n) h = let more : n < length cs = within_first cs n h in omega arith
 
-pub applied_more : (all : List DatedChange) (n : ℕ) (index : List (List ℕ × List ℕ)) (old new : DatedChange) → IsIndexed all n index → n < length all → old ≡ get_or all n old → new.change ≡ old.change
+pub applied_more : (all : List DatedChange) (n : ℕ) (index : NameTable (List ℕ)) (old new : DatedChange) → IsIndexed all n index → n < length all → old ≡ get_or all n old → new.change ≡ old.change
     → IfSome (last_date (take n all)) (λ last. last ≤ℤ new.date) → IsIndexed (set all n new) (n + 1) index
 applied_more all n index old new indexed lt is same later = record {
   within = omega (arith, length-set all n new);
   rising = let one : n + 1 ≡ suc n = omega arith in subst IsRising (sym (ap (λ m. take m (set all n new)) one ∙ take-suc-set all n new lt)) (IsRising-push (take n all) new indexed.rising later);
-  in_order = indexed.in_order;
   complete = λ q. indexed.complete q ∙ ap (places q 0) (sym (map-set_same (λ (d : DatedChange). d.change) all n new old (same ∙ ap (λ d. d.change) is)));
 }
 
@@ -66,13 +73,12 @@ take_least (suc n) zero xs le = absurd (omega arith)
 take_least (suc n) (suc m) [] le = refl
 take_least (suc n) (suc m) (x ∷ xs) le = ap (λ zs. x ∷ zs) (take_least n m xs (omega arith))
 
-pub forgotten : (all new : List DatedChange) (n m : ℕ) (index cut : List (List ℕ × List ℕ)) → IsIndexed all n index → n ≤ m → m ≤ length all → new ≡ take m all → IsTrue (is_in_order cut) → ((q : List ℕ) → places_in cut q ≡ filter (λ p. nat_lt p m) (places_in index q)) → IsIndexed new n cut
-forgotten all new n m index cut indexed from to is order kept =
+pub forgotten : (all new : List DatedChange) (n m : ℕ) (index cut : NameTable (List ℕ)) → IsIndexed all n index → n ≤ m → m ≤ length all → new ≡ take m all → ((q : List ℕ) → places_in cut q ≡ filter (λ p. nat_lt p m) (places_in index q)) → IsIndexed new n cut
+forgotten all new n m index cut indexed from to is kept =
     let P : List DatedChange → Type 0 = λ cs. IsIndexed cs n cut in
     subst P (sym is) (record {
       within = omega (arith, length-take m all);
       rising = subst IsRising (sym (take_least n m all from)) indexed.rising;
-      in_order = order;
       complete = λ q. kept q ∙ ap (filter (λ p. nat_lt p m)) (indexed.complete q) ∙ places-take q m (changes_of all) ∙ ap (places q 0) (take-map (λ (d : DatedChange). d.change) m all);
     })
 
@@ -102,36 +108,34 @@ take-front zero xs ys le = refl
 take-front (suc n) [] ys le = absurd (omega arith)
 take-front (suc n) (x ∷ xs) ys le = ap (λ zs. x ∷ zs) (take-front n xs ys (omega arith))
 
-pub prepared_more : (all : List DatedChange) (n : ℕ) (index marked : List (List ℕ × List ℕ)) (new : DatedChange) → IsIndexed all n index → IsTrue (is_in_order marked)
+pub prepared_more : (all : List DatedChange) (n : ℕ) (index marked : NameTable (List ℕ)) (new : DatedChange) → IsIndexed all n index
     → ((q : List ℕ) → places_in marked q ≡ places_in index q ++ hits q (length all) (names new.change)) → IsIndexed (all ++ new ∷ []) n marked
-prepared_more all n index marked new indexed order marks = record {
+prepared_more all n index marked new indexed marks = record {
   within = let le : n ≤ length all = indexed.within in omega (arith, length-append all (new ∷ []));
   rising = subst IsRising (sym (take-front n all (new ∷ []) indexed.within)) indexed.rising;
-  in_order = order;
   complete = λ q. marks q
       ∙ ap₂ (λ xs k. xs ++ hits q k (names new.change)) (indexed.complete q) (sym (length-map all (λ (d : DatedChange). d.change)))
       ∙ sym (places-push q (changes_of all) new.change)
       ∙ ap (places q 0) (sym (map-append (λ (d : DatedChange). d.change) all (new ∷ [])));
 }
 
-pub prepared_none : (all : List DatedChange) (n : ℕ) (index cut : List (List ℕ × List ℕ)) → IsIndexed all n index → IsTrue (is_in_order cut)
+pub prepared_none : (all : List DatedChange) (n : ℕ) (index cut : NameTable (List ℕ)) → IsIndexed all n index
     → ((q : List ℕ) → places_in cut q ≡ filter (λ p. nat_lt p (length all)) (places_in index q)) → IsIndexed all n cut
-prepared_none all n index cut indexed order kept = record {
+prepared_none all n index cut indexed kept = record {
   within = indexed.within;
   rising = indexed.rising;
-  in_order = order;
   complete = λ q. kept q ∙ ap (filter (λ p. nat_lt p (length all))) (indexed.complete q) ∙ places-below q 0 (length all) (changes_of all) (omega (arith, length-map all (λ (d : DatedChange). d.change)));
 }
 
-pub prepared_so : {E : Type 0} (r : Result (Unit {0}) E) (all now : List DatedChange) (count n : ℕ) (index next : List (List ℕ × List ℕ)) (new : DatedChange) → IsIndexed all n index → count ≡ length all → IsTrue (is_in_order next)
+pub prepared_so : {E : Type 0} (r : Result (Unit {0}) E) (all now : List DatedChange) (count n : ℕ) (index next : NameTable (List ℕ)) (new : DatedChange) → IsIndexed all n index → count ≡ length all
     → OnOk r (now ≡ all ++ new ∷ []) → OnOk r ((q : List ℕ) → places_in next q ≡ places_in index q ++ hits q count (names new.change))
     → OnErr r (now ≡ all) → OnErr r ((q : List ℕ) → places_in next q ≡ filter (λ p. nat_lt p count) (places_in index q)) → IsIndexed now n next
-prepared_so (Ok u) all now count n index next new indexed long order ok marks err kept =
+prepared_so (Ok u) all now count n index next new indexed long ok marks err kept =
     let P : List DatedChange → Type 0 = λ cs. IsIndexed cs n next in
-    subst P (sym ok) (prepared_more all n index next new indexed order (λ q. marks q ∙ ap (λ k. places_in index q ++ hits q k (names new.change)) long))
-prepared_so (Err e) all now count n index next new indexed long order ok marks err kept =
+    subst P (sym ok) (prepared_more all n index next new indexed (λ q. marks q ∙ ap (λ k. places_in index q ++ hits q k (names new.change)) long))
+prepared_so (Err e) all now count n index next new indexed long ok marks err kept =
     let P : List DatedChange → Type 0 = λ cs. IsIndexed cs n next in
-    subst P (sym err) (prepared_none all n index next indexed order (λ q. kept q ∙ ap (λ k. filter (λ p. nat_lt p k) (places_in index q)) long))
+    subst P (sym err) (prepared_none all n index next indexed (λ q. kept q ∙ ap (λ k. filter (λ p. nat_lt p k) (places_in index q)) long))
 
 -- a copy with the values of the names so far
 or_none : (a b : Bool) (o p : Option (List ℕ)) → p ≡ cond a o None → (b ≡ true → o ≡ None) → p ≡ cond (a || b) o None
@@ -174,9 +178,9 @@ all_or_none : (b : Bool) (o : Option (List ℕ)) → (b ≡ false → o ≡ None
 all_or_none true o h = refl
 all_or_none false o h = sym (h refl)
 
-pub copied_all : (date : Option ℤ) (all : List DatedChange) (n : ℕ) (index entries : List (List ℕ × List ℕ)) (i : ℕ) (meta target : MetaOf) → IsIndexed all n index → entries ≡ index → length entries ≤ i → target ≡ meta_at date (take n all)
-    → ((q : List ℕ) → get meta q ≡ cond (is_among q (map (λ p. p.0) (take i entries))) (get target q) None) → meta ≡ target
+pub copied_all : (date : Option ℤ) (all : List DatedChange) (n : ℕ) (index entries : NameTable (List ℕ)) (i : ℕ) (meta target : MetaOf) → IsIndexed all n index → entries ≡ index → length (pairs_of entries) ≤ i → target ≡ meta_at date (take n all)
+    → ((q : List ℕ) → get meta q ≡ cond (is_among q (map (λ p. p.0) (take i (pairs_of entries)))) (get target q) None) → meta ≡ target
 copied_all date all n index entries i meta target indexed same le is so_far =
     same_table meta target (λ q. so_far q
-    ∙ ap (λ xs. cond (is_among q (map (λ p. p.0) xs)) (get target q) None) (take_all i entries le ∙ same)
-    ∙ all_or_none (is_among q (map (λ p. p.0) index)) (get target q) (λ h. ap (λ t. get t q) is ∙ no_value date all n index q indexed h))
+    ∙ ap (λ xs. cond (is_among q (map (λ p. p.0) xs)) (get target q) None) (take_all i (pairs_of entries) le ∙ ap pairs_of same)
+    ∙ all_or_none (is_among q (map (λ p. p.0) (pairs_of index))) (get target q) (λ h. ap (λ t. get t q) is ∙ no_value date all n index q indexed h))

@@ -1,15 +1,10 @@
 -- An index to which places are added.
-use Rattle.std.proofs.Common.{◌≡◌, ℕ, zero, suc, ◌+◌, ◌<◌, ◌≤◌, Bool, true, false, cond, List, [], ◌∷◌, ◌++◌, length, get_or, set, take, drop, map, filter, nat_lt, unwrap_or, IsTrue, OnErr, Option, Some, Result, Ok, Err, refl, sym, ap, ap₂, ◌∙◌, arith, append_assoc, append-nil}
+use Rattle.std.proofs.Common.{◌≡◌, ℕ, zero, suc, ◌+◌, ◌<◌, ◌≤◌, Bool, true, false, cond, List, [], ◌∷◌, ◌++◌, length, get_or, set, take, drop, map, filter, nat_lt, unwrap_or, OnErr, Option, Some, Result, Ok, Err, refl, sym, ap, ap₂, ◌∙◌, arith, append_assoc, append-nil}
 use Rattle.std.proofs.lemmas.List.{take_more, take_all, drop_all, map-append}
 use Rattle.std.proofs.lemmas.List.Elements.{filter-append}
-use Rattle.std.proofs.Math.Seq.{get_or-append_seam}
 use Rattle.std.specs.Ordering.{eq_by_cmp}
-use Rattle.std.specs.Cmp.Lexicographic.{nat_list_cmp_total}
-use Rattle.std.specs.FinMap.Entries.{find, put, find-put}
-use Rattle.lg_containers.specs.NameOrder.{name_order, is_in_order}
-use Rattle.lg_containers.specs.Places.{IsAt, BelongsAt}
-use Rattle.lg_containers.proofs.Placed.{found_at, not_found, put_at}
-use Rattle.lg_containers.proofs.Tables.{put_keeps}
+use Rattle.lg_containers.specs.NameOrder.{name_order}
+use Rattle.lg_containers.specs.NameTable.{NameTable, get, insert, get-insert}
 use Rattle.lg_meta.specs.Index.{hits, places_in, SameBelowPlace}
 use Rattle.lg_meta.proofs.Folds.{same_names}
 use Rattle.lg_meta.proofs.Marks.{hits-append, hits-from}
@@ -18,38 +13,42 @@ unwrap-cond : (b : Bool) (v : List ℕ) (o : Option (List ℕ)) → unwrap_or (c
 unwrap-cond true v o = refl
 unwrap-cond false v o = refl
 
-marked_there : (index : List (List ℕ × List ℕ)) (name : List ℕ) (old : List ℕ) (place : ℕ) (q : List ℕ) → places_in index name ≡ old → (b : Bool) → eq_by_cmp name_order q name ≡ b
+marked_there : (index : NameTable (List ℕ)) (name : List ℕ) (old : List ℕ) (place : ℕ) (q : List ℕ) → places_in index name ≡ old → (b : Bool) → eq_by_cmp name_order q name ≡ b
     → cond b (old ++ place ∷ []) (places_in index q) ≡ places_in index q ++ cond b (place ∷ []) []
 marked_there index name old place q is true e = ap (λ xs. xs ++ place ∷ []) (sym is ∙ ap (places_in index) (sym (same_names q name e)))
 marked_there index name old place q is false e = sym (append-nil (places_in index q))
 
 -- the name's places with one more
-pub places_in-put : (index new : List (List ℕ × List ℕ)) (name : List ℕ) (old : List ℕ) (place : ℕ) → places_in index name ≡ old → new ≡ put name_order name (old ++ place ∷ []) index
+places_in-put : (index new : NameTable (List ℕ)) (name : List ℕ) (place : ℕ) → new ≡ insert index name (places_in index name ++ place ∷ [])
     → (q : List ℕ) → places_in new q ≡ places_in index q ++ hits q place (name ∷ [])
-places_in-put index new name old place is made q =
-    ap (λ ps. places_in ps q) made
-    ∙ ap (λ o. unwrap_or o []) (find-put name_order nat_list_cmp_total q name (old ++ place ∷ []) index)
-    ∙ unwrap-cond (eq_by_cmp name_order q name) (old ++ place ∷ []) (find name_order q index)
-    ∙ marked_there index name old place q is (eq_by_cmp name_order q name) refl
+places_in-put index new name place made q =
+    ap (λ t. places_in t q) made
+    ∙ ap (λ o. unwrap_or o []) (get-insert index name (places_in index name ++ place ∷ []) q)
+    ∙ unwrap-cond (eq_by_cmp name_order q name) (places_in index name ++ place ∷ []) (get index q)
+    ∙ marked_there index name (places_in index name) place q refl (eq_by_cmp name_order q name) refl
 
-pub order-put : (index new : List (List ℕ × List ℕ)) (name : List ℕ) (places : List ℕ) → IsTrue (is_in_order index) → new ≡ put name_order name places index → IsTrue (is_in_order new)
-order-put index new name places order made = put_keeps ℕ (Ok tt) index new name places order made tt
+-- the places that were opened, with one more or as they were
+pub marked_more : (index : NameTable (List ℕ)) (name given held new : List ℕ) (place : ℕ) → held ≡ unwrap_or (get index name) given → given ≡ [] → new ≡ held ++ place ∷ []
+    → (q : List ℕ) → places_in (insert index name new) q ≡ places_in index q ++ hits q place (name ∷ [])
+marked_more index name given held new place is none made =
+    places_in-put index (insert index name new) name place (ap (λ v. insert index name v) (made ∙ ap (λ xs. xs ++ place ∷ []) (is ∙ ap (λ v. unwrap_or (get index name) v) none)))
 
--- where the name stands in the index
-pub places_at : (index : List (List ℕ × List ℕ)) (name : List ℕ) (at : ℕ) (entry : List ℕ × List ℕ) → IsAt name index at → entry ≡ get_or index at entry → places_in index name ≡ entry.1
-places_at index name at entry is e = ap (λ o. unwrap_or o []) (sym (found_at name index at entry is)) ∙ ap (λ p. p.1) (sym e)
+opened_so : (index : NameTable (List ℕ)) (name q : List ℕ) (b : Bool) → eq_by_cmp name_order q name ≡ b → cond b (places_in index name) (places_in index q) ≡ places_in index q
+opened_so index name q true e = ap (places_in index) (sym (same_names q name e))
+opened_so index name q false e = refl
 
-name_at : (index : List (List ℕ × List ℕ)) (name : List ℕ) (at : ℕ) (entry : List ℕ × List ℕ) → IsAt name index at → entry ≡ get_or index at entry → entry.0 ≡ name
-name_at index name at entry is e =
-    ap (λ p. p.0) (e ∙ ap₂ (λ ps n. get_or ps n entry) is.parts (sym is.length_front) ∙ get_or-append_seam is.front (name, is.value) is.back entry)
+-- the name is there, and has no other places than before
+places_in-open : (index new : NameTable (List ℕ)) (name : List ℕ) → new ≡ insert index name (places_in index name) → (q : List ℕ) → places_in new q ≡ places_in index q
+places_in-open index new name made q =
+    ap (λ t. places_in t q) made
+    ∙ ap (λ o. unwrap_or o []) (get-insert index name (places_in index name) q)
+    ∙ unwrap-cond (eq_by_cmp name_order q name) (places_in index name) (get index q)
+    ∙ opened_so index name q (eq_by_cmp name_order q name) refl
 
-pub set_at : (index : List (List ℕ × List ℕ)) (name : List ℕ) (at : ℕ) (entry : List ℕ × List ℕ) (places new : List ℕ) → IsAt name index at → entry ≡ get_or index at entry → places ≡ new → set index at (entry.0, places) ≡ put name_order name new index
-set_at index name at entry places new is e made =
-    ap₂ (λ n ps. set index at (n, ps)) (name_at index name at entry is e) made ∙ put_at name index at new is
-
--- where it isn't there
-pub no_places : (index : List (List ℕ × List ℕ)) (name : List ℕ) (at : ℕ) → BelongsAt name index at → places_in index name ≡ []
-no_places index name at is = ap (λ o. unwrap_or o []) (sym (not_found name index at is))
+pub marked_none : (index : NameTable (List ℕ)) (name given held new : List ℕ) → held ≡ unwrap_or (get index name) given → given ≡ [] → new ≡ held
+    → (q : List ℕ) → places_in (insert index name new) q ≡ places_in index q
+marked_none index name given held new is none made =
+    places_in-open index (insert index name new) name (ap (λ v. insert index name v) (made ∙ is ∙ ap (λ v. unwrap_or (get index name) v) none))
 
 -- what was added stands at the place, so nothing changed below it
 pub same_below : (place : ℕ) (q : List ℕ) (old new : List ℕ) (ns : List (List ℕ)) → new ≡ old ++ hits q place ns → SameBelowPlace place old new
@@ -85,7 +84,7 @@ map_step f (y ∷ ys) (suc i) x lt is = ap (λ zs. f y ∷ zs) (map_step f ys i 
 pub map_done : {X : Type 0} (f : X → X) (xs : List X) (i : ℕ) → length xs ≤ i → map f (take i xs) ++ drop i xs ≡ map f xs
 map_done f xs i le = ap₂ (λ ys zs. map f ys ++ zs) (take_all i xs le) (drop_all i xs le) ∙ append-nil (map f xs)
 
-pub same_on_err : {T E : Type 0} (r : Result T E) (place : ℕ) (index new : List (List ℕ × List ℕ))
+pub same_on_err : {T E : Type 0} (r : Result T E) (place : ℕ) (index new : NameTable (List ℕ))
     → ((q : List ℕ) → SameBelowPlace place (places_in index q) (places_in new q)) → OnErr r ((q : List ℕ) → SameBelowPlace place (places_in index q) (places_in new q))
 same_on_err (Ok x) place index new same = tt
 same_on_err (Err e) place index new same = same

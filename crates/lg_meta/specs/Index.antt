@@ -5,11 +5,10 @@
 --     value_of name change     what a change makes of a name that it sets or drops
 --     last_value               the value at the last of the places, and else the value given
 --     IsIndexed                the index gives each name the places of its changes; the dates of those applied never fall
-use Rattle.std.specs.Prelude.{◌≡◌, ℕ, suc, ◌≤◌, ℤ, ◌≤ℤ◌, Bool, false, cond, List, [], ◌∷◌, ◌++◌, map, filter, nat_lt, take, length, unwrap_or, IsTrue, Option, Some, None}
+use Rattle.std.specs.Prelude.{◌≡◌, ℕ, suc, ◌≤◌, ℤ, ◌≤ℤ◌, Bool, false, cond, List, [], ◌∷◌, ◌++◌, map, filter, nat_lt, take, length, unwrap_or, Option, Some, None}
 use Rattle.std.specs.Ordering.{eq_by_cmp}
-use Rattle.std.specs.FinMap.Entries.{find}
-use Rattle.lg_containers.specs.NameOrder.{name_order, is_in_order}
-use Rattle.lg_containers.specs.NameTable.{pairs_of, get, insert}
+use Rattle.lg_containers.specs.NameOrder.{name_order}
+use Rattle.lg_containers.specs.NameTable.{NameTable, pairs_of, get, insert}
 use Rattle.lg_types.specs.declared.changes.MetaChange.{MetaChange}
 use Rattle.lg_types.specs.declared.changes.MetaChange.TheVariants.{Set, Drop}
 use Rattle.lg_meta.specs.declared.change.DatedChange.{DatedChange}
@@ -29,8 +28,8 @@ abbrev pub places : List ℕ → ℕ → List MetaChange → List ℕ
 places name k [] = []
 places name k (change ∷ rest) = hits name k (names change) ++ places name (suc k) rest
 
-abbrev pub places_in : List (List ℕ × List ℕ) → List ℕ → List ℕ
-places_in index name = unwrap_or (find name_order name index) []
+abbrev pub places_in : NameTable (List ℕ) → List ℕ → List ℕ
+places_in index name = unwrap_or (get index name) []
 
 abbrev pub changes_of : List DatedChange → List MetaChange
 changes_of all = map (λ dated. dated.change) all
@@ -63,10 +62,9 @@ abbrev pub IsRising : List DatedChange → Type 0
 IsRising [] = Unit {0}
 IsRising (dated ∷ rest) = IsFrom dated.date rest × IsRising rest
 
-pub record IsIndexed (all : List DatedChange) (applied : ℕ) (index : List (List ℕ × List ℕ)) : Type 0 where
+pub record IsIndexed (all : List DatedChange) (applied : ℕ) (index : NameTable (List ℕ)) : Type 0 where
   pub within : applied ≤ length all
   pub rising : IsRising (take applied all)
-  pub in_order : IsTrue (is_in_order index)
   pub complete : (name : List ℕ) → places_in index name ≡ places name 0 (changes_of all)
 
 -- the places below the place are the same

@@ -1,13 +1,11 @@
 //! What a history does to its parts.
 
-ghost use Rattle.std.specs.Prelude.{◌≡◌, ℕ, List, [], ◌∷◌, ◌++◌, filter, nat_lt, pos, OnOk, OnErr, IsTrue, vec_len};
+ghost use Rattle.std.specs.Prelude.{◌≡◌, ℕ, List, [], ◌∷◌, ◌++◌, filter, nat_lt, pos, OnOk, OnErr, vec_len};
 ghost use Rattle.std.specs.Option.{option_copied};
-ghost use Rattle.lg_containers.specs.NameOrder.{is_in_order};
 ghost use Rattle.lg_meta.specs.Index.{names, hits, places_in, changes_of, with_value, SameBelowPlace};
 
 use crate::change::DatedChange;
-use crate::index::{cut, mark_change};
-use crate::places::Places;
+use crate::index::{PlacesByName, cut, mark_change};
 use lg_containers::{Duplicate, Meta, NoMemory, Text};
 use lg_types::MetaChange;
 use std::alloc::Global;
@@ -16,15 +14,13 @@ use std::alloc::Global;
 pub(crate) fn add_change(
     alloc: Global,
     changes: &mut Vec<DatedChange>,
-    index: &mut Vec<(Text, Places)>,
+    index: &mut PlacesByName,
     change: MetaChange,
 ) -> Result<(), NoMemory>
-    requires { IsTrue (is_in_order index.old.items) }
-    ensures order { IsTrue (is_in_order index.new.items) }
     ensures ok { OnOk result (changes.new.items ≡ changes.old.items ++ record { date = pos 0; change = change } ∷ []) }
-    ensures marked { OnOk result ((q : List ℕ) → places_in index.new.items q ≡ places_in index.old.items q ++ hits q (vec_len changes.old) (names change)) }
+    ensures marked { OnOk result ((q : List ℕ) → places_in index.new q ≡ places_in index.old q ++ hits q (vec_len changes.old) (names change)) }
     ensures err { OnErr result (changes.new.items ≡ changes.old.items) }
-    ensures unmarked { OnErr result ((q : List ℕ) → places_in index.new.items q ≡ filter (λ place. nat_lt place (vec_len changes.old)) (places_in index.old.items q)) }
+    ensures unmarked { OnErr result ((q : List ℕ) → places_in index.new q ≡ filter (λ place. nat_lt place (vec_len changes.old)) (places_in index.old q)) }
 {
     let place = changes.len();
     match push_change(alloc, changes, index, change) {
@@ -39,15 +35,13 @@ pub(crate) fn add_change(
 fn push_change(
     alloc: Global,
     changes: &mut Vec<DatedChange>,
-    index: &mut Vec<(Text, Places)>,
+    index: &mut PlacesByName,
     change: MetaChange,
 ) -> Result<(), NoMemory>
-    requires { IsTrue (is_in_order index.old.items) }
-    ensures order { IsTrue (is_in_order index.new.items) }
     ensures ok { OnOk result (changes.new.items ≡ changes.old.items ++ record { date = pos 0; change = change } ∷ []) }
-    ensures marked { OnOk result ((q : List ℕ) → places_in index.new.items q ≡ places_in index.old.items q ++ hits q (vec_len changes.old) (names change)) }
+    ensures marked { OnOk result ((q : List ℕ) → places_in index.new q ≡ places_in index.old q ++ hits q (vec_len changes.old) (names change)) }
     ensures err { OnErr result (changes.new.items ≡ changes.old.items) }
-    ensures unmarked { OnErr result ((q : List ℕ) → SameBelowPlace (vec_len changes.old) (places_in index.old.items q) (places_in index.new.items q)) }
+    ensures unmarked { OnErr result ((q : List ℕ) → SameBelowPlace (vec_len changes.old) (places_in index.old q) (places_in index.new q)) }
 {
     mark_change(alloc, index, &change, changes.len())?;
     changes.push(DatedChange { date: 0, change })?;

@@ -8,10 +8,10 @@ ghost use Rattle.lg_meta.specs.History.{first_applied};
 
 use crate::adding::{add_change, put_copy};
 use crate::change::DatedChange;
-use crate::index::{cut, find_places};
+use crate::index::{PlacesByName, cut};
 use crate::latest::latest;
-use crate::places::Places;
 use lg_containers::{Duplicate, Meta, NoMemory, Text};
+use lg_maps::NameMap;
 use lg_types::MetaChange;
 use std::alloc::Global;
 use std::marker::Model;
@@ -25,8 +25,7 @@ pub struct MetaHistory {
     // The applied changes, and then the prepared ones, whose dates mean nothing yet.
     changes: Vec<DatedChange>,
     applied: usize,
-    // For each name, in byte order, the places of its changes.
-    index: Vec<(Text, Places)>,
+    index: PlacesByName,
 }
 
 impl Model for MetaHistory {
@@ -38,7 +37,7 @@ impl Model for MetaHistory {
 
     ghost view = { λ h. record { changes = take h.applied h.changes.items; prepared = changes_of (drop h.applied h.changes.items) } };
 
-    ghost invariant = { λ h. IsIndexed h.changes.items h.applied h.index.items };
+    ghost invariant = { λ h. IsIndexed h.changes.items h.applied h.index };
 }
 
 impl MetaHistory {
@@ -50,7 +49,7 @@ impl MetaHistory {
             alloc,
             changes: Vec::new(alloc),
             applied: 0,
-            index: Vec::new(alloc),
+            index: NameMap::new(alloc),
         }
     }
 
@@ -107,7 +106,7 @@ impl MetaHistory {
     pub fn value(&self, name: &[u8], date: Option<i64>) -> Option<&Text>
         ensures { option_copied result ≡ get (meta_at date self.now.changes) name.now }
     {
-        match find_places(&self.index, name) {
+        match self.index.find(name) {
             None => None,
             Some(places) => latest(
                 &self.changes[..self.applied],
@@ -133,14 +132,17 @@ impl MetaHistory {
     pub fn copy_at(&self, date: Option<i64>) -> Result<Meta, NoMemory>
         ensures { IfOk result (λ meta. meta ≡ meta_at date self.now.changes) }
     {
+        let index = &self.index;
         let mut meta = Meta::new(self.alloc);
-        for entry in &self.index {
-            put_copy(
-                self.alloc,
-                &mut meta,
-                &entry.0,
-                self.value(entry.0.bytes(), date),
-            )?;
+        for place in 0..index.len() {
+            match index.get(place) {
+                Some((name, places)) => {
+                    let applied = &self.changes[..self.applied];
+                    let value = latest(applied, places.as_slice(), name.bytes(), &date);
+                    put_copy(self.alloc, &mut meta, name, value)?;
+                }
+                None => unreachable!(),
+            }
         }
         Ok(meta)
     }

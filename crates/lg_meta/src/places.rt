@@ -1,6 +1,6 @@
 //! Places of changes.
 
-ghost use Rattle.std.specs.Prelude.{◌≡◌, [], ◌∷◌, ◌++◌, filter, nat_lt, OnOk, OnErr, IfOk};
+ghost use Rattle.std.specs.Prelude.{◌≡◌, [], ◌∷◌, ◌++◌, filter, nat_lt, OnOk, OnErr};
 
 use lg_containers::NoMemory;
 use std::alloc::Global;
@@ -21,13 +21,13 @@ impl Model for Places {
 }
 
 impl Places {
-    /// The list of one place.
-    pub(crate) fn of(alloc: Global, place: usize) -> Result<Places, NoMemory>
-        ensures { IfOk result (λ places. places ≡ place ∷ []) }
+    /// The list without places.
+    pub(crate) fn new(alloc: Global) -> Places
+        ensures { result ≡ [] }
     {
-        let mut items = Vec::new(alloc);
-        items.push(place)?;
-        Ok(Places { items })
+        Places {
+            items: Vec::new(alloc),
+        }
     }
 
     pub(crate) fn as_slice(&self) -> &[usize]

@@ -1,7 +1,7 @@
 //! Requests in texts.
 
 use lg_json::read;
-use lg_lists::Lists;
+use lg_pages::Lists;
 use lg_routes::{RequestBody, call_of_request};
 use lg_types::Call;
 use std::alloc::Global;

@@ -1,8 +1,8 @@
 //! Bytes as texts.
 
 use lg_base::ByteFeed;
-use lg_codec::reply_text;
 use lg_containers::Canonical;
+use lg_replies::reply_text;
 use lg_views::Reply;
 use std::alloc::Global;
 use std::test::Fail;

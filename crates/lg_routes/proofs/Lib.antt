@@ -1,3 +1,7 @@
 pub mod Lent
+pub mod Numerals
+pub mod PathNames
+pub mod Pieces
 pub mod Readings
+pub mod RouteLists
 pub mod Routing

@@ -5,7 +5,7 @@ use Rattle.std.specs.Result.{IsErrAnd}
 use Rattle.lg_json.specs.Tree.{Tree, tree}
 use Rattle.lg_json.specs.declared.json.Json.{Json}
 use Rattle.lg_types.specs.declared.refusals.Refusal.{Refusal}
-use Rattle.lg_views.specs.Answers.{Answer, Then, GoesOn, gives}
+use Rattle.lg_readings.specs.Answers.{Answer, Then, GoesOn, gives}
 use Rattle.lg_codec.specs.Results.{Reads}
 use Rattle.lg_codec.specs.declared.stop.CodecStop.{CodecStop}
 use Rattle.lg_codec.specs.declared.stop.CodecStop.TheVariants.{Refused, NoMemory}

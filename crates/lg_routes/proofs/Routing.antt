@@ -6,14 +6,14 @@ use Rattle.std.specs.declared.alloc.AllocError.{AllocError}
 use Rattle.form_urlencoded.specs.Form.{raw_pairs}
 use Rattle.lg_types.specs.declared.calls.Call.{Call}
 use Rattle.lg_types.specs.declared.refusals.Refusal.TheVariants.{NoRoute, Method, OutOfMemory}
-use Rattle.lg_views.specs.Answers.{Answer}
-use Rattle.lg_views.specs.Requests.{Body, Asks, AsksOn, AsksAmong, RequestAnswer}
-use Rattle.lg_views.specs.Routes as views
-use Rattle.lg_views.specs.Targets.{Parameter, path_segments, segments_behind, parameters, path_of, query_of, parameter_of, is_slash}
+use Rattle.lg_readings.specs.Answers.{Answer}
+use Rattle.lg_readings.specs.Requests.{Body, Asks, AsksOn, AsksAmong, RequestAnswer}
+use Rattle.lg_readings.specs.Routes as views
+use Rattle.lg_readings.specs.Targets.{Parameter, path_segments, segments_behind, parameters, path_of, query_of, parameter_of, is_slash}
 use Rattle.lg_codec.specs.Results.{Reads}
 use Rattle.lg_codec.specs.declared.stop.CodecStop.{CodecStop}
 use Rattle.lg_codec.specs.declared.stop.CodecStop.TheVariants.{Refused, NoMemory}
-use Rattle.lg_targets.specs.Table.{found_in, names_of, HasNamesOf}
+use Rattle.lg_routes.specs.Table.{found_in, names_of, HasNamesOf}
 use Rattle.lg_routes.specs.Calls.{AsksAt, IsCallOf, IsCallOfAnswer, kind_found, recomputes_in, body_kind_of}
 use Rattle.lg_routes.specs.declared.body.BodyKind.{BodyKind}
 

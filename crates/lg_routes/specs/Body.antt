@@ -6,8 +6,8 @@ use Rattle.lg_json.specs.declared.json.JsonFault.{JsonFault}
 use Rattle.lg_json.specs.declared.json.JsonFault.TheVariants as faults
 use Rattle.lg_types.specs.declared.refusals.FaultKind.TheVariants as kinds
 use Rattle.lg_types.specs.declared.refusals.Refusal.TheVariants.{OutOfMemory}
-use Rattle.lg_views.specs.Answers.{Answer}
-use Rattle.lg_views.specs.Requests.{Body, NoBody, ValueBody, FaultyBody, UnreadBody, LinesBody}
+use Rattle.lg_readings.specs.Answers.{Answer}
+use Rattle.lg_readings.specs.Requests.{Body, NoBody, ValueBody, FaultyBody, UnreadBody, LinesBody}
 use Rattle.lg_codec.specs.declared.stop.CodecStop.{CodecStop}
 use Rattle.lg_codec.specs.declared.stop.CodecStop.TheVariants.{Refused, NoMemory}
 use Rattle.lg_routes.specs.declared.body.RequestBody.{RequestBody}

@@ -5,14 +5,14 @@ use Rattle.lg_types.specs.declared.calls.Call.{Call}
 use Rattle.lg_types.specs.declared.calls.Call.TheVariants.{Unreadable}
 use Rattle.lg_types.specs.declared.refusals.Refusal.{Refusal}
 use Rattle.lg_types.specs.declared.refusals.Refusal.TheVariants.{OutOfMemory}
-use Rattle.lg_views.specs.Answers.{Answer}
-use Rattle.lg_views.specs.Parameters.{is_recompute}
-use Rattle.lg_views.specs.Requests.{Body, IsRequest, AsksAmong, segments_or_none}
-use Rattle.lg_views.specs.Routes as views
-use Rattle.lg_views.specs.Targets.{Parameter, path_segments, query_of, parameter_of, first_value}
+use Rattle.lg_readings.specs.Answers.{Answer}
+use Rattle.lg_readings.specs.Parameters.{is_recompute}
+use Rattle.lg_readings.specs.Requests.{Body, IsRequest, AsksAmong, segments_or_none}
+use Rattle.lg_readings.specs.Routes as views
+use Rattle.lg_readings.specs.Targets.{Parameter, path_segments, query_of, parameter_of, first_value}
 use Rattle.lg_codec.specs.declared.stop.CodecStop.{CodecStop}
 use Rattle.lg_codec.specs.declared.stop.CodecStop.TheVariants.{Refused, NoMemory}
-use Rattle.lg_targets.specs.Table.{found_in}
+use Rattle.lg_routes.specs.Table.{found_in}
 use Rattle.lg_routes.specs.declared.body.BodyKind.{BodyKind}
 use Rattle.lg_routes.specs.declared.body.BodyKind.TheVariants.{Ignored, Json, Lines}
 

@@ -5,9 +5,9 @@ use Rattle.lg_types.specs.declared.calls.Call.TheVariants as call
 use Rattle.lg_types.specs.declared.filters.ListKind.{ListKind}
 use Rattle.lg_types.specs.declared.filters.ListKind.TheVariants as kind
 use Rattle.lg_types.specs.declared.queries.Query.{Query}
-use Rattle.lg_views.specs.Answers.{Answer, gives, ◌>>=◌}
-use Rattle.lg_views.specs.Requests.{Body, LedgersQuery, ItemsQuery, LogsQuery, VolumesQuery}
-use Rattle.lg_views.specs.Targets.{Parameter}
+use Rattle.lg_readings.specs.Answers.{Answer, gives, ◌>>=◌}
+use Rattle.lg_readings.specs.Requests.{Body, LedgersQuery, ItemsQuery, LogsQuery, VolumesQuery}
+use Rattle.lg_readings.specs.Targets.{Parameter}
 
 -- the lists that have pages
 abbrev pub HasPages : ListKind → Type 0

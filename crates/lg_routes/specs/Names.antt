@@ -1,7 +1,7 @@
 -- What the name of a target of metadata is read as.
 use Rattle.lg_types.specs.declared.records.Target.{Target}
-use Rattle.lg_views.specs.Answers.{Answer}
-use Rattle.lg_views.specs.Requests.{AccountTarget, TransactionTarget}
+use Rattle.lg_readings.specs.Answers.{Answer}
+use Rattle.lg_readings.specs.Requests.{AccountTarget, TransactionTarget}
 use Rattle.lg_routes.specs.declared.names.TargetName.{TargetName}
 use Rattle.lg_routes.specs.declared.names.TargetName.TheVariants.{Account, Transaction}
 

@@ -1,9 +1,9 @@
 //! The body that comes with a request.
 
-ghost use Rattle.lg_views.specs.Answers.{known};
-ghost use Rattle.lg_views.specs.Requests as requests;
+ghost use Rattle.lg_readings.specs.Answers.{known};
+ghost use Rattle.lg_readings.specs.Requests as requests;
 ghost use Rattle.lg_codec.specs.Results.{Reads};
-ghost use Rattle.lg_views.specs.Requests.{FaultyBody};
+ghost use Rattle.lg_readings.specs.Requests.{FaultyBody};
 ghost use Rattle.lg_routes.specs.Body.{body_seen, faulty_body, ReadsTree};
 
 use crate::refusals::wrong;

@@ -4,11 +4,11 @@ ghost use Rattle.std.specs.Prelude.{◌≡◌, ◌<◌, Some, length, map, IfOk}
 ghost use Rattle.std.specs.Option.{option_map};
 ghost use Rattle.form_urlencoded.specs.Form as form;
 ghost use Rattle.lg_codec.specs.Results.{Reads};
-ghost use Rattle.lg_views.specs.Requests as requests;
-ghost use Rattle.lg_views.specs.Routes.{routes_at};
-ghost use Rattle.lg_views.specs.Targets as targets;
-ghost use Rattle.lg_targets.specs.Seen.{segments_seen, parameters_seen, bytes_seen};
-ghost use Rattle.lg_targets.specs.Table.{row_seen, segments_of, names_of, segment_at};
+ghost use Rattle.lg_readings.specs.Requests as requests;
+ghost use Rattle.lg_readings.specs.Routes.{routes_at};
+ghost use Rattle.lg_readings.specs.Targets as targets;
+ghost use Rattle.lg_routes.specs.Seen.{segments_seen, parameters_seen, bytes_seen};
+ghost use Rattle.lg_routes.specs.Table.{row_seen, segments_of, names_of, segment_at};
 ghost use Rattle.lg_routes.specs.Body.{body_seen};
 ghost use Rattle.lg_routes.specs.Calls.{AsksAt, IsCallOf, IsCallOfRefusal, IsCallOfAnswer};
 
@@ -17,16 +17,17 @@ use crate::lists::{
     ListReader, accounts_read, aggregate_read, ledgers_call, logs_read, transactions_read,
     volumes_read,
 };
+use crate::matching::{RouteMatch, match_route};
 use crate::names::TargetName;
+use crate::parameters::{Parameter, read_parameters};
 use crate::reads::{account_read, plain_read, transaction_read};
+use crate::segments::{path_segments, split_target};
+use crate::table::Row;
 use crate::writes::{
     bulk_call, create_call, drop_call, import_call, make_call, revert_call, set_call,
 };
 use lg_base::NoMemory;
 use lg_codec::CodecStop;
-use lg_targets::{
-    Parameter, RouteMatch, Row, match_route, path_segments, read_parameters, split_target,
-};
 use lg_types::{Call, Read, Refusal};
 use std::alloc::Global;
 use std::borrow::CowSlice;

@@ -2,16 +2,19 @@
 
 ghost use Rattle.std.specs.Prelude.{◌≡◌, Some, IfOk};
 ghost use Rattle.std.specs.Option.{option_map};
-ghost use Rattle.lg_views.specs.Routes as routes;
-ghost use Rattle.lg_targets.specs.Seen.{segments_seen};
-ghost use Rattle.lg_targets.specs.Table.{row_seen, found_in};
+ghost use Rattle.lg_readings.specs.Routes as routes;
+ghost use Rattle.lg_routes.specs.Seen.{segments_seen};
+ghost use Rattle.lg_routes.specs.Table.{row_seen, found_in};
 ghost use Rattle.lg_routes.specs.declared.body.BodyKind.TheVariants.{Lines};
 ghost use Rattle.lg_routes.specs.Calls.{body_kind_of, kind_of, kind_found, recomputes_in};
 
 use crate::body::BodyKind;
+use crate::matching::{RouteMatch, match_route};
 use crate::parameter_words::recomputes;
+use crate::parameters::read_parameters;
+use crate::segments::{path_segments, split_target};
+use crate::table::Row;
 use lg_base::NoMemory;
-use lg_targets::{RouteMatch, Row, match_route, path_segments, read_parameters, split_target};
 use std::alloc::Global;
 use std::borrow::CowSlice;
 

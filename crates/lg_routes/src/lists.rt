@@ -3,16 +3,16 @@
 ghost use Rattle.lg_codec.specs.Results.{Reads};
 ghost use Rattle.lg_types.specs.declared.filters.ListKind.TheVariants as kind;
 ghost use Rattle.lg_types.specs.declared.queries.Read.TheVariants as read;
-ghost use Rattle.lg_views.specs.Requests as requests;
+ghost use Rattle.lg_readings.specs.Requests as requests;
 ghost use Rattle.lg_routes.specs.Body.{body_seen};
 ghost use Rattle.lg_routes.specs.Lists.{QueryOf, HasPages, LedgersCall};
-ghost use Rattle.lg_targets.specs.Seen.{parameters_seen};
+ghost use Rattle.lg_routes.specs.Seen.{parameters_seen};
 
 use crate::body::RequestBody;
 use crate::names::ledger_named;
 use crate::parameter_values::{moment, refuse_order, truth};
+use crate::parameters::Parameter;
 use lg_codec::CodecStop;
-use lg_targets::Parameter;
 use lg_types::{Call, Filter, ListKind, Query, Read};
 use std::alloc::Global;
 

@@ -1,17 +1,17 @@
 //! The names of a path, and the key.
 
 ghost use Rattle.std.specs.Prelude.{◌≡◌, Some};
-ghost use Rattle.lg_views.specs.Answers.{IfForm};
-ghost use Rattle.lg_views.specs.Requests as requests;
+ghost use Rattle.lg_readings.specs.Answers.{IfForm};
+ghost use Rattle.lg_readings.specs.Requests as requests;
 ghost use Rattle.lg_codec.specs.Results.{Reads};
 ghost use Rattle.lg_routes.specs.Names.{TargetNamed};
-ghost use Rattle.lg_targets.specs.Seen.{bytes_seen};
+ghost use Rattle.lg_routes.specs.Seen.{bytes_seen};
 
+use crate::numbers::read_number;
 use crate::refusals::wrong;
 use lg_base::NoMemory;
 use lg_codec::CodecStop;
 use lg_containers::{Grammar, Name, NameFault};
-use lg_targets::read_number;
 use lg_types::{Address, Key, LedgerName, Reason, Target, Text};
 use std::alloc::Global;
 

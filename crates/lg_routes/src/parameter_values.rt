@@ -2,14 +2,15 @@
 
 ghost use Rattle.std.specs.Prelude.{◌≡◌, Some, map, bytes_eq};
 ghost use Rattle.std.specs.Char.{to_ascii_lowercase};
-ghost use Rattle.lg_views.specs.Answers.{known};
-ghost use Rattle.lg_views.specs.Parameters as values;
+ghost use Rattle.lg_readings.specs.Answers.{known};
+ghost use Rattle.lg_readings.specs.Parameters as values;
 ghost use Rattle.lg_codec.specs.Results.{Reads};
-ghost use Rattle.lg_targets.specs.Seen.{parameters_seen, bytes_seen};
+ghost use Rattle.lg_routes.specs.Seen.{parameters_seen, bytes_seen};
 
+use crate::bytes::same_bytes;
+use crate::parameters::{Parameter, first_value, has_parameter};
 use crate::refusals::bad_parameter;
 use lg_codec::CodecStop;
-use lg_targets::{Parameter, first_value, has_parameter, same_bytes};
 use lg_time::read_moment;
 use std::alloc::Global;
 

@@ -2,15 +2,16 @@
 
 ghost use Rattle.std.specs.Prelude.{◌≡◌, Some, bytes_eq, codes};
 ghost use Rattle.std.specs.List.{list_any, list_all};
-ghost use Rattle.lg_views.specs.Answers.{known};
-ghost use Rattle.lg_views.specs.Parameters as values;
-ghost use Rattle.lg_views.specs.Targets.{first_value, all_values};
+ghost use Rattle.lg_readings.specs.Answers.{known};
+ghost use Rattle.lg_readings.specs.Parameters as values;
+ghost use Rattle.lg_readings.specs.Targets.{first_value, all_values};
 ghost use Rattle.lg_codec.specs.Results.{Reads};
-ghost use Rattle.lg_targets.specs.Seen.{parameters_seen};
+ghost use Rattle.lg_routes.specs.Seen.{parameters_seen};
 
+use crate::bytes::same_bytes;
+use crate::parameters::{Parameter, first_value};
 use crate::refusals::bad_parameter;
 use lg_codec::CodecStop;
-use lg_targets::{Parameter, first_value, same_bytes};
 use lg_types::Expand;
 use std::alloc::Global;
 

@@ -1,14 +1,14 @@
 //! Calls that read one thing of a ledger.
 
 ghost use Rattle.lg_codec.specs.Results.{Reads};
-ghost use Rattle.lg_views.specs.Requests as requests;
-ghost use Rattle.lg_targets.specs.Seen.{parameters_seen};
+ghost use Rattle.lg_readings.specs.Requests as requests;
+ghost use Rattle.lg_routes.specs.Seen.{parameters_seen};
 
 use crate::names::{address_named, id_named, ledger_named};
 use crate::parameter_values::{moment, refuse_order};
 use crate::parameter_words::expand;
+use crate::parameters::Parameter;
 use lg_codec::CodecStop;
-use lg_targets::Parameter;
 use lg_types::{Call, Read};
 use std::alloc::Global;
 

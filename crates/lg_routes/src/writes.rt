@@ -1,20 +1,20 @@
 //! Calls that write.
 
 ghost use Rattle.std.specs.Prelude.{◌&&◌, codes};
-ghost use Rattle.lg_views.specs.Answers.{known};
-ghost use Rattle.lg_views.specs.Parameters.{unless_true};
+ghost use Rattle.lg_readings.specs.Answers.{known};
+ghost use Rattle.lg_readings.specs.Parameters.{unless_true};
 ghost use Rattle.lg_codec.specs.Results.{Reads};
-ghost use Rattle.lg_views.specs.Requests as requests;
+ghost use Rattle.lg_readings.specs.Requests as requests;
 ghost use Rattle.lg_routes.specs.Body.{body_seen};
-ghost use Rattle.lg_targets.specs.Seen.{parameters_seen, bytes_seen};
+ghost use Rattle.lg_routes.specs.Seen.{parameters_seen, bytes_seen};
 ghost use Rattle.lg_routes.specs.Names.{TargetNamed};
 
 use crate::body::{RequestBody, lines_of_body, value_of_body};
 use crate::names::{TargetName, id_named, ledger_named, metadata_named, read_key, target_named};
 use crate::parameter_values::{refuse_order, refuse_true, truth};
 use crate::parameter_words::check_hashes;
+use crate::parameters::Parameter;
 use lg_codec::{CodecStop, WriteKind, elements_of_json, ledger_of_json, write_of_json};
-use lg_targets::Parameter;
 use lg_types::{Call, Write};
 use std::alloc::Global;
 

@@ -2,7 +2,7 @@
 use Rattle.std.proofs.Common.{◌≡◌, ℕ, Bool, true, false, cond, List, [], ◌∷◌, ◌++◌, Option, Some, None, IsSome, unwrap_or, refl, sym, ap, subst, ◌∙◌, length-append, arith}
 use Rattle.std.specs.Str.{bytes_eq}
 use Rattle.lg_containers.specs.NameTable.{NameTable, get, insert, empty, get-empty}
-use Rattle.lg_keys.specs.Contents.{Contents}
+use Rattle.lg_maps.specs.Contents.{Contents}
 use Rattle.lg_keys.specs.declared.kept.Kept.{Kept}
 use Rattle.lg_meta.specs.Index.{changes_of}
 use Rattle.lg_types.specs.declared.records.Entry.{Entry}
@@ -17,7 +17,7 @@ use Rattle.lg_shard.specs.Ties.{MovesTied, HistoriesTied, KeysTied, ReferencesTi
 use Rattle.lg_shard.specs.Shown.{changes_on}
 use Rattle.lg_shard.proofs.AccountLemmas.{get-change, get-opened, bytes_same, bytes_itself}
 use Rattle.lg_shard.proofs.HistoryTies.{of-append}
-use Rattle.lg_shard.proofs.SlotLemmas.{get-own, insert-twice}
+use Rattle.lg_maps.proofs.Shown.{get-own, insert-twice}
 use Rattle.lg_shard.proofs.QuietLemmas.{holding-joined, joined-nothing, holding-logged}
 use Rattle.lg_shard.proofs.TieLemmas.{count-append}
 

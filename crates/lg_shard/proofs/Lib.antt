@@ -1,4 +1,3 @@
-pub mod SlotLemmas
 pub mod AccountLemmas
 pub mod MoveLists
 pub mod TieLemmas

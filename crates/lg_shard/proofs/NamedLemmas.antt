@@ -1,15 +1,18 @@
 -- Accounts and assets that are found by what they have.
-use Rattle.std.proofs.Common.{◌≡◌, ℕ, suc, ◌+◌, ◌<◌, arith, Bool, true, false, cond, ◌&&◌, ◌||◌, T, List, [], ◌∷◌, ◌++◌, length, get_or, take, drop, map, nat_lt, Option, Some, None, IsTrue, Ordering, Less, Equal, Greater, refl, sym, ap, ap₂, subst, ◌∙◌}
+use Rattle.std.proofs.Common.{◌≡◌, ◌⊎◌, inl, inr, ℕ, suc, ◌+◌, ◌<◌, ◌≤◌, arith, Bool, true, false, cond, ◌&&◌, ◌||◌, T, List, [], ◌∷◌, ◌++◌, length, get_or, take, drop, map, nat_lt, slice_get, Option, Some, None, IsTrue, Ordering, Less, Equal, Greater, refl, sym, ap, ap₂, subst, ◌∙◌}
 use Rattle.std.specs.List.{filter, list_any, AllByRecursion}
 use Rattle.std.specs.List.Sorted.{IsStrictlySortedBy}
+use Rattle.std.specs.Option.{option_map}
 use Rattle.std.specs.Ordering.{is_eq, is_lt, eq_by_cmp}
 use Rattle.std.specs.Str.{bytes_eq}
 use Rattle.std.specs.FinMap.Entries.{find, below_all}
 use Rattle.std.proofs.lemmas.Bool.Decides.{nat_tests}
-use Rattle.std.proofs.lemmas.List.{append-nil, take_more, drop_more, map-append}
+use Rattle.std.proofs.lemmas.List.{append-nil, take_more, take_all, drop_more, drop_all, map-append}
+use Rattle.std.proofs.lemmas.Option.{slice_get_within, slice_get_cases, get_or_from_slice_get}
 use Rattle.std.proofs.lemmas.List.Elements.{filter-append}
 use Rattle.lg_containers.specs.NameOrder.{name_order, is_in_order}
-use Rattle.lg_containers.specs.NameTable.{NameTable, get, pairs_of, get-pairs, pairs_in_order}
+use Rattle.lg_containers.specs.NameTable.{NameTable, get, len, pairs_of, get-pairs, len-pairs, pairs_in_order}
+use Rattle.lg_maps.proofs.Shown.{some_is_there}
 use Rattle.lg_meta.specs.MetaFold.{dated_change}
 use Rattle.lg_types.specs.declared.records.Target.TheVariants.{Account}
 use Rattle.lg_types.specs.Changes.{Change, is_about}
@@ -236,9 +239,35 @@ where_step test b ps p e =
     one true = refl
     one false = refl
 
-module _ {V : Type 0} (test : V → Bool) (ps : List (List ℕ × V)) (i : ℕ) (p : List ℕ × V) (within : i < length ps) (is : p ≡ get_or ps i p) where
+-- a map has a name at each place below its length
+past : {X : Type 0} (xs : List X) (i : ℕ) → i < length xs → None ≡ slice_get xs i → ((x : X) × (i < length xs) × (slice_get xs i ≡ Some x) × (get_or xs i x ≡ x)) ⊎ ((length xs ≤ i) × (slice_get xs i ≡ None)) → ⊥
+past xs i within none (inl (x, below, is, at)) = some_is_there x (sym (none ∙ is))
+past xs i within none (inr (le, is)) = omega (arith, within, le)
+
+pub place-filled : {X V : Type 0} (t : NameTable V) (i : ℕ) → i < len t → (show : X → List ℕ × V) (found : Option X) → found ≡ None → option_map show found ≡ slice_get (pairs_of t) i → ⊥
+place-filled t i within show found none is = past (pairs_of t) i (subst (λ n. i < n) (len-pairs t) within) (ap (option_map show) (sym none) ∙ is) (slice_get_cases (pairs_of t) i).1
+
+-- past the last place of a map everything is listed
+module _ {V : Type 0} (test : V → Bool) (t : NameTable V) (n : ℕ) (past : len t ≤ n) where
+  whole : length (pairs_of t) ≤ n
+  whole = subst (λ m. m ≤ n) (len-pairs t) past
+
+  pub names-all : (names : List (List ℕ)) → names ≡ names_where test (take n (pairs_of t)) → names ≡ names_where test (pairs_of t)
+  names-all names e = e ∙ ap (names_where test) (take_all n (pairs_of t) whole)
+
+  pub none-left : (all : Bool) → all ≡ list_any (λ x. test x.1) (drop n (pairs_of t)) → false ≡ all
+  none-left all e = sym (e ∙ ap (list_any (λ x. test x.1)) (drop_all n (pairs_of t) whole))
+
+-- a step of a loop over the places of a map, at the pair that it takes
+module _ {V : Type 0} (test : V → Bool) (ps : List (List ℕ × V)) (i : ℕ) (p : List ℕ × V) (is : slice_get ps i ≡ Some p) where
+  within : i < length ps
+  within = slice_get_within ps i p is
+
+  here : get_or ps i p ≡ p
+  here = get_or_from_slice_get ps i p p is
+
   taken : take (i + 1) ps ≡ take i ps ++ p ∷ []
-  taken = take_more ps i p within ∙ ap (λ x. take i ps ++ x ∷ []) (sym is)
+  taken = take_more ps i p within ∙ ap (λ x. take i ps ++ x ∷ []) here
 
   pub names-pushed : (mid new : List (List ℕ)) (name : List ℕ) → mid ≡ names_where test (take i ps) → test p.1 ≡ true → name ≡ p.0 → new ≡ mid ++ name ∷ [] → new ≡ names_where test (take (i + 1) ps)
   names-pushed mid new name e t n h = h ∙ ap₂ (λ l x. l ++ x ∷ []) e n ∙ sym (ap (names_where test) taken ∙ where_step test true (take i ps) p t)
@@ -247,7 +276,7 @@ module _ {V : Type 0} (test : V → Bool) (ps : List (List ℕ × V)) (i : ℕ) 
   names-passed mid e t = e ∙ sym (ap (names_where test) taken ∙ where_step test false (take i ps) p t ∙ append-nil (names_where test (take i ps)))
 
   rest : drop i ps ≡ p ∷ drop (i + 1) ps
-  rest = drop_more ps i p within ∙ ap (λ x. x ∷ drop (i + 1) ps) (sym is)
+  rest = drop_more ps i p within ∙ ap (λ x. x ∷ drop (i + 1) ps) here
 
   pub any-passed : (all : Bool) → all ≡ list_any (λ x. test x.1) (drop i ps) → test p.1 ≡ false → all ≡ list_any (λ x. test x.1) (drop (i + 1) ps)
   any-passed all e t = e ∙ ap (list_any (λ x. test x.1)) rest ∙ ap (λ b. b || list_any (λ x. test x.1) (drop (i + 1) ps)) t

@@ -6,7 +6,7 @@ use Rattle.std.specs.Prelude.{nat_eq}
 use Rattle.std.specs.Str.{bytes_eq}
 use Rattle.std.proofs.lemmas.List.Folds.{find-append}
 use Rattle.lg_containers.specs.NameTable.{NameTable, get, insert}
-use Rattle.lg_keys.specs.Contents.{Contents}
+use Rattle.lg_maps.specs.Contents.{Contents}
 use Rattle.lg_keys.specs.declared.kept.Kept.{Kept}
 use Rattle.lg_types.specs.declared.classes.Class.TheVariants.{Key, Reference}
 use Rattle.lg_types.specs.declared.records.Entry.{Entry}

@@ -3,7 +3,7 @@ use Rattle.std.specs.Prelude.{◌≡◌, ℕ, ◌<◌, ◌≤◌, List, ◌++◌
 use Rattle.std.specs.Option.{option_map}
 use Rattle.std.specs.List.{find}
 use Rattle.lg_containers.specs.NameTable.{NameTable, get, empty}
-use Rattle.lg_keys.specs.Contents.{Contents}
+use Rattle.lg_maps.specs.Contents.{Contents}
 use Rattle.lg_keys.specs.declared.kept.Kept.{Kept}
 use Rattle.lg_meta.specs.Index.{changes_of}
 use Rattle.lg_types.specs.Changes.{Change}

@@ -9,8 +9,8 @@ ghost use Rattle.lg_shard.specs.Histories.{with_applied, without_last};
 ghost use Rattle.lg_shard.specs.Holdings.{MovesFollow};
 
 use crate::reserved::Reserved;
-use crate::slots::Slots;
 use lg_containers::{Address, AddressGrammar, Asset, AssetGrammar, NoMemory};
+use lg_maps::NameMap;
 use lg_meta::{MetaChange, MetaHistory};
 use lg_moves::Move;
 use lg_runs::Steps;
@@ -20,12 +20,12 @@ use std::sync::ledger::Ledger;
 /// What one account holds: the index of each of its assets, and the history of its metadata.
 #[derive(Drop)]
 pub struct AccountPart {
-    pub(crate) assets: Slots<AssetGrammar, Reserved>,
+    pub(crate) assets: NameMap<AssetGrammar, Reserved>,
     pub(crate) history: MetaHistory,
 }
 
 /// The accounts of one ledger.
-pub type Accounts = Slots<AddressGrammar, AccountPart>;
+pub type Accounts = NameMap<AddressGrammar, AccountPart>;
 
 impl AccountPart {
     /// No asset, no change.
@@ -34,7 +34,7 @@ impl AccountPart {
         ensures history { result.history ≡ no_history }
     {
         AccountPart {
-            assets: Slots::new(alloc),
+            assets: NameMap::new(alloc),
             history: MetaHistory::new(alloc),
         }
     }

@@ -15,10 +15,10 @@ use crate::entries::{
     apply_changes, apply_moves, forget_changes, prepare_changes, release_moves, reserve_moves,
 };
 use crate::names::{Names, own_names};
-use crate::slots::Slots;
 use crate::tables::{apply_key, apply_reference};
 use lg_containers::{LedgerName, LedgerNameGrammar, NoMemory};
 use lg_keys::{KeyTable, ReferenceTable};
+use lg_maps::NameMap;
 use lg_runs::Steps;
 use lg_types::Entry;
 use std::alloc::Global;
@@ -33,7 +33,7 @@ pub struct LedgerPart {
 }
 
 /// What each ledger holds of the stripe.
-pub type Ledgers = Slots<LedgerNameGrammar, LedgerPart>;
+pub type Ledgers = NameMap<LedgerNameGrammar, LedgerPart>;
 
 impl LedgerPart {
     /// Nothing.
@@ -43,7 +43,7 @@ impl LedgerPart {
         ensures references { result.references ≡ record { table = table.empty; spare = 0 } }
     {
         LedgerPart {
-            accounts: Slots::new(alloc),
+            accounts: NameMap::new(alloc),
             keys: KeyTable::new(alloc),
             references: ReferenceTable::new(alloc),
         }

@@ -16,7 +16,6 @@ mod readers;
 mod reserved;
 mod shard;
 mod shards;
-mod slots;
 mod stripes;
 mod tables;
 

@@ -1,14 +1,16 @@
 //! What is found in the accounts of one ledger.
 
-ghost use Rattle.std.specs.Prelude.{◌≡◌, ◌↔◌, [], IfOk, IfSome, IsNone};
+ghost use Rattle.std.specs.Prelude.{◌≡◌, ◌<◌, ◌↔◌, [], IfOk, IfSome, IsNone, Some, slice_get};
 ghost use Rattle.std.specs.List.{list_any};
 ghost use Rattle.lg_containers.specs.NameTable as table;
+ghost use Rattle.lg_containers.specs.Pairs.{pair_of};
 ghost use Rattle.lg_shard.specs.Accounts.{items_at, history_at};
 ghost use Rattle.lg_shard.specs.Named.{assets_at, has_items, is_named as part_named, is_named_at, names_where};
 
 use crate::accounts::{AccountPart, Accounts};
 use crate::reserved::Reserved;
-use lg_containers::{Address, Asset, Duplicate, List, NoMemory};
+use lg_containers::{Address, Asset, AssetGrammar, Duplicate, Grammar, List, Name, NoMemory};
+use lg_maps::NameMap;
 use lg_meta::MetaHistory;
 use lg_moves::MoveIndex;
 use std::alloc::Global;
@@ -61,12 +63,24 @@ fn has_move(slot: &Reserved) -> bool
     slot.index.len() > 0
 }
 
-// Whether one of the assets has moves.
-fn has_moves(assets: &[(Asset, Reserved)]) -> bool
-    ensures { result ≡ list_any (λ p. has_items p.1) assets.now }
+// The name at the place in byte order, with its value.
+fn pair_at<G: Grammar, V>(names: &NameMap<G, V>, place: usize) -> (&Name<G>, &V)
+    requires { place < table.len names.now }
+    ensures { slice_get (table.pairs_of names.now) place ≡ Some (pair_of result) }
 {
-    for entry in assets {
-        if has_move(&entry.1) {
+    match names.get(place) {
+        Some(pair) => pair,
+        None => unreachable!(),
+    }
+}
+
+// Whether one of the assets has moves.
+fn has_moves(assets: &NameMap<AssetGrammar, Reserved>) -> bool
+    ensures { result ≡ list_any (λ p. has_items p.1) (table.pairs_of assets.now) }
+{
+    for place in 0..assets.len() {
+        let (_, slot) = pair_at(assets, place);
+        if has_move(slot) {
             return true;
         }
     }
@@ -77,7 +91,7 @@ fn has_moves(assets: &[(Asset, Reserved)]) -> bool
 fn is_named(part: &AccountPart) -> bool
     ensures { result ≡ part_named part.now }
 {
-    part.history.first().is_some() || has_moves(part.assets.entries())
+    part.history.first().is_some() || has_moves(&part.assets)
 }
 
 /// Whether the account has a change of its metadata, or moves. A move that is prepared alone counts for nothing.
@@ -95,9 +109,10 @@ pub fn named_accounts(alloc: Global, accounts: &Accounts) -> Result<List<Address
     ensures { IfOk result (λ names. names ≡ names_where part_named (table.pairs_of accounts.now)) }
 {
     let mut names = List::new(alloc);
-    for entry in accounts.entries() {
-        if is_named(&entry.1) {
-            names.push(entry.0.copy(alloc)?)?;
+    for place in 0..accounts.len() {
+        let (account, part) = pair_at(accounts, place);
+        if is_named(part) {
+            names.push(account.copy(alloc)?)?;
         }
     }
     Ok(names)
@@ -112,18 +127,22 @@ pub fn moved_assets(
     ensures { IfOk result (λ names. names ≡ assets_at accounts.now account.now) }
 {
     match accounts.find(account.bytes()) {
-        Some(part) => assets_with_moves(alloc, part.assets.entries()),
+        Some(part) => assets_with_moves(alloc, &part.assets),
         None => Ok(List::new(alloc)),
     }
 }
 
-fn assets_with_moves(alloc: Global, assets: &[(Asset, Reserved)]) -> Result<List<Asset>, NoMemory>
-    ensures { IfOk result (λ names. names ≡ names_where has_items assets.now) }
+fn assets_with_moves(
+    alloc: Global,
+    assets: &NameMap<AssetGrammar, Reserved>,
+) -> Result<List<Asset>, NoMemory>
+    ensures { IfOk result (λ names. names ≡ names_where has_items (table.pairs_of assets.now)) }
 {
     let mut names = List::new(alloc);
-    for entry in assets {
-        if has_move(&entry.1) {
-            names.push(entry.0.copy(alloc)?)?;
+    for place in 0..assets.len() {
+        let (asset, slot) = pair_at(assets, place);
+        if has_move(slot) {
+            names.push(asset.copy(alloc)?)?;
         }
     }
     Ok(names)

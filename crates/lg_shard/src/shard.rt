@@ -11,9 +11,9 @@ use crate::events::{apply_event, prepare_event, push_kept, release_events, take_
 use crate::kept::KeptEvent;
 use crate::ledgers::Ledgers;
 use crate::readers::{find_history, find_index, is_named_in, moved_assets, named_accounts};
-use crate::slots::Slots;
 use lg_containers::{Address, Asset, Key, LedgerName, List, NoMemory, Reference, Shared};
 use lg_keys::Kept;
+use lg_maps::NameMap;
 use lg_meta::MetaHistory;
 use lg_moves::MoveIndex;
 use lg_runs::Steps;
@@ -57,7 +57,7 @@ impl Shard {
             stripe,
             events: Vec::new(alloc),
             applied: 0,
-            ledgers: Slots::new(alloc),
+            ledgers: NameMap::new(alloc),
         }
     }
 
@@ -183,7 +183,7 @@ impl Shard {
         ensures { result ≡ kept_under self.now.shares ledger.now key.now }
     {
         match self.ledgers.find(ledger.bytes()) {
-            Some(part) => part.keys.find(key.bytes()),
+            Some(part) => part.keys.find(key.bytes()).copied(),
             None => None,
         }
     }
@@ -193,7 +193,7 @@ impl Shard {
         ensures { result ≡ used_under self.now.shares ledger.now reference.now }
     {
         match self.ledgers.find(ledger.bytes()) {
-            Some(part) => part.references.find(reference.bytes()),
+            Some(part) => part.references.find(reference.bytes()).copied(),
             None => None,
         }
     }

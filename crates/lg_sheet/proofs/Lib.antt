@@ -2,6 +2,5 @@ pub mod BookLemmas
 pub mod LineLemmas
 pub mod OrderLemmas
 pub mod SheetLemmas
-pub mod SlotLemmas
 pub mod TrialLemmas
 pub mod WorkingLemmas

@@ -11,6 +11,7 @@ use Rattle.lg_base.specs.declared.amounts.Volumes.{Volumes}
 use Rattle.lg_containers.specs.NameOrder.{name_order}
 use Rattle.lg_containers.specs.NameTable.{NameTable, get, insert, empty, get-insert, get-empty, name_order-same}
 use Rattle.std.proofs.lemmas.List.{get_or_read}
+use Rattle.lg_maps.proofs.Shown.{insert-twice}
 use Rattle.lg_types.specs.declared.records.Posting.{Posting}
 use Rattle.lg_sheet.specs.Trials.{OfBoth}
 use Rattle.lg_sheet.specs.Working.{Working, no_volumes, asset_volumes, worked, HasAsset, IsOpen, StaysOpen, SameVolumes}
@@ -120,9 +121,6 @@ stays_opened w account = record {
     kept b y h false e = h
     kept b y h true e = more_placed (get w account) y (subst (λ o. HasAsset o y) (ap (get w) (same_names b account e)) h)
 
-pub place_opened : (w : Working) (account : List ℕ) → IsSome (get (insert w account (placed (get w account))) account)
-place_opened w account = subst (λ o. IsSome o) (sym (own_place w account (placed (get w account)))) refl
-
 -- the asset gets a place, with what it has
 abbrev pub with_asset : NameTable Volumes → List ℕ → NameTable Volumes
 with_asset assets asset = insert assets asset (unwrap_or (get assets asset) no_volumes)
@@ -157,27 +155,34 @@ same_twice u v w h k = record { each = λ b y. k.each b y ∙ h.each b y }
 pub stays_twice : (u v w : Working) → StaysOpen u v → StaysOpen v w → StaysOpen u w
 stays_twice u v w h k = record { each = λ b y o. k.each b y (h.each b y o) }
 
--- a place that is made for an account and an asset
-pub opened_is : (w v : Working) (account : List ℕ) (none : NameTable Volumes) → none ≡ empty → v ≡ insert w account (unwrap_or (get w account) none) → v ≡ insert w account (placed (get w account))
-opened_is w v account none e is = is ∙ ap (λ t. insert w account (unwrap_or (get w account) t)) e
+-- a place that is made for an account, and what becomes of its assets
+module _ {E : Type 0} (r : Result (Unit {0}) E) (w : Working) (account asset : List ℕ) (none old new : NameTable Volumes) (e : none ≡ empty) (is : old ≡ unwrap_or (get w account) none) where
+  abbrev opened : Working
+  opened = insert w account (placed (get w account))
 
-pub place_same : {E : Type 0} (r : Result (Unit {0}) E) (w v : Working) (account asset : List ℕ) (old new : NameTable Volumes) → v ≡ insert w account (placed (get w account)) → get v account ≡ Some old
-    → OnOk r (new ≡ with_asset old asset) → OnErr r (new ≡ old) → SameVolumes w (insert v account new)
-place_same (Ok done) w v account asset old new is there ok err =
-    same_twice w v _ (subst (SameVolumes w) (sym is) (same_opened w account)) (subst (λ a. SameVolumes v (insert v account a)) (sym ok) (same_with_asset v account asset old there))
-place_same (Err e) w v account asset old new is there ok err =
-    same_twice w v _ (subst (SameVolumes w) (sym is) (same_opened w account)) (subst (λ a. SameVolumes v (insert v account a)) (sym err) (same_there v account old there))
+  there : get opened account ≡ Some old
+  there = own_place w account (placed (get w account)) ∙ ap Some (sym (is ∙ ap (unwrap_or (get w account)) e))
 
-pub place_stays : {E : Type 0} (r : Result (Unit {0}) E) (w v : Working) (account asset : List ℕ) (old new : NameTable Volumes) → v ≡ insert w account (placed (get w account)) → get v account ≡ Some old
-    → OnOk r (new ≡ with_asset old asset) → OnErr r (new ≡ old) → StaysOpen w (insert v account new)
-place_stays (Ok done) w v account asset old new is there ok err =
-    stays_twice w v _ (subst (StaysOpen w) (sym is) (stays_opened w account)) (subst (λ a. StaysOpen v (insert v account a)) (sym ok) (stays_with_asset v account asset old there))
-place_stays (Err e) w v account asset old new is there ok err =
-    stays_twice w v _ (subst (StaysOpen w) (sym is) (stays_opened w account)) (subst (λ a. StaysOpen v (insert v account a)) (sym err) (stays_there v account old old there (λ y h. h)))
+  once : (assets : NameTable Volumes) → insert opened account assets ≡ insert w account assets
+  once = insert-twice w account (placed (get w account))
 
-pub place_open : {E : Type 0} (r : Result (Unit {0}) E) (v : Working) (account asset : List ℕ) (old new : NameTable Volumes) → OnOk r (new ≡ with_asset old asset) → OnOk r (IsOpen (insert v account new) account asset)
-place_open (Ok done) v account asset old new ok = subst (λ a. IsOpen (insert v account a) account asset) (sym ok) (open_with_asset v account asset old)
-place_open (Err e) v account asset old new ok = tt
+  same_after : (s : Result (Unit {0}) E) → OnOk s (new ≡ with_asset old asset) → OnErr s (new ≡ old) → SameVolumes opened (insert opened account new)
+  same_after (Ok done) ok err = subst (λ a. SameVolumes opened (insert opened account a)) (sym ok) (same_with_asset opened account asset old there)
+  same_after (Err error) ok err = subst (λ a. SameVolumes opened (insert opened account a)) (sym err) (same_there opened account old there)
+
+  stays_after : (s : Result (Unit {0}) E) → OnOk s (new ≡ with_asset old asset) → OnErr s (new ≡ old) → StaysOpen opened (insert opened account new)
+  stays_after (Ok done) ok err = subst (λ a. StaysOpen opened (insert opened account a)) (sym ok) (stays_with_asset opened account asset old there)
+  stays_after (Err error) ok err = subst (λ a. StaysOpen opened (insert opened account a)) (sym err) (stays_there opened account old old there (λ y h. h))
+
+  pub place_same : OnOk r (new ≡ with_asset old asset) → OnErr r (new ≡ old) → SameVolumes w (insert w account new)
+  place_same ok err = subst (SameVolumes w) (once new) (same_twice w opened _ (same_opened w account) (same_after r ok err))
+
+  pub place_stays : OnOk r (new ≡ with_asset old asset) → OnErr r (new ≡ old) → StaysOpen w (insert w account new)
+  place_stays ok err = subst (StaysOpen w) (once new) (stays_twice w opened _ (stays_opened w account) (stays_after r ok err))
+
+pub place_open : {E : Type 0} (r : Result (Unit {0}) E) (w : Working) (account asset : List ℕ) (old new : NameTable Volumes) → OnOk r (new ≡ with_asset old asset) → OnOk r (IsOpen (insert w account new) account asset)
+place_open (Ok done) w account asset old new ok = subst (λ a. IsOpen (insert w account a) account asset) (sym ok) (open_with_asset w account asset old)
+place_open (Err e) w account asset old new ok = tt
 
 -- ---- places of a list of postings
 

@@ -4,7 +4,6 @@
 mod lines;
 mod revert;
 mod sheet;
-mod slots;
 mod stop;
 mod trial;
 mod working;

@@ -9,11 +9,11 @@ ghost use Rattle.lg_sheet.specs.Trials.{MayTry, HaveTotals, Accepted, StaysWithi
 
 use crate::lines::Order;
 use crate::revert::book_revert;
-use crate::slots::Slots;
 use crate::stop::SheetStop;
 use crate::trial::book;
 use crate::working::{Working, open_all};
 use lg_base::NoMemory;
+use lg_maps::NameMap;
 use lg_types::{Balances, Postings};
 use std::alloc::Global;
 use std::marker::Model;
@@ -42,7 +42,7 @@ impl Sheet {
     {
         Sheet {
             alloc,
-            working: Slots::new(alloc),
+            working: NameMap::new(alloc),
         }
     }
 

@@ -12,14 +12,14 @@ ghost use Rattle.lg_sheet.specs.Working.{worked, no_volumes, IsOpen, StaysOpen, 
 ghost use Rattle.lg_sheet.specs.Trials.{OfBoth};
 
 use crate::lines::Line;
-use crate::slots::Slots;
 use lg_base::NoMemory;
 use lg_containers::{AddressGrammar, AssetGrammar};
+use lg_maps::NameMap;
 use lg_types::{Address, Asset, Posting, Volumes};
 use std::alloc::Global;
 
 /// For each account the volumes of its assets.
-pub type Working = Slots<AddressGrammar, Slots<AssetGrammar, Volumes>>;
+pub type Working = NameMap<AddressGrammar, NameMap<AssetGrammar, Volumes>>;
 
 /// The volumes of the account and the asset, nothing where there are none.
 pub fn volumes_of(working: &Working, account: &Address, asset: &Asset) -> Volumes
@@ -31,7 +31,7 @@ pub fn volumes_of(working: &Working, account: &Address, asset: &Asset) -> Volume
     }
 }
 
-fn asset_volumes(assets: &Slots<AssetGrammar, Volumes>, asset: &Asset) -> Volumes
+fn asset_volumes(assets: &NameMap<AssetGrammar, Volumes>, asset: &Asset) -> Volumes
     ensures { result ≡ unwrap_or (table.get assets.now asset.now) no_volumes }
 {
     match assets.find(asset.bytes()) {
@@ -63,19 +63,20 @@ fn open_place(
     ensures stays { StaysOpen working.old working.new }
     ensures places { OnOk result (IsOpen working.new account.now asset.now) }
 {
-    working.open(alloc, account, Slots::new(alloc))?;
-    open_asset(alloc, working.value_mut(account.bytes()), asset)
+    let assets = working.open(alloc, account, NameMap::new(alloc))?;
+    open_asset(alloc, assets, asset)
 }
 
 fn open_asset(
     alloc: Global,
-    assets: &mut Slots<AssetGrammar, Volumes>,
+    assets: &mut NameMap<AssetGrammar, Volumes>,
     asset: &Asset,
 ) -> Result<(), NoMemory>
     ensures ok { OnOk result (assets.new ≡ table.insert assets.old asset.now (unwrap_or (table.get assets.old asset.now) no_volumes)) }
     ensures err { OnErr result (assets.new ≡ assets.old) }
 {
-    assets.open(alloc, asset, Volumes::zero())
+    assets.open(alloc, asset, Volumes::zero())?;
+    Ok(())
 }
 
 /// Sets the volumes of the account and the asset.
@@ -87,7 +88,7 @@ fn set_volumes(working: &mut Working, account: &Address, asset: &Asset, volumes:
     set_asset(working.value_mut(account.bytes()), asset, volumes);
 }
 
-fn set_asset(assets: &mut Slots<AssetGrammar, Volumes>, asset: &Asset, volumes: Volumes)
+fn set_asset(assets: &mut NameMap<AssetGrammar, Volumes>, asset: &Asset, volumes: Volumes)
     requires { IsSome (table.get assets.old asset.now) }
     ensures { assets.new ≡ table.insert assets.old asset.now volumes }
 {

@@ -46,13 +46,13 @@ fn keeps_references(rt: HostRuntime) -> Result<(), Fail> {
     let mut table = ReferenceTable::new(alloc);
     table.prepare(2)?;
     let first: Reference = Name::read(alloc, b"order-1")?;
-    assert_eq!(rt; table.find(first.bytes()), None);
+    assert!(rt; table.find(first.bytes()).is_none());
     table.apply(first, 8);
     let second: Reference = Name::read(alloc, b"order-10")?;
-    assert_eq!(rt; table.find(second.bytes()), None);
+    assert!(rt; table.find(second.bytes()).is_none());
     table.apply(second, 9);
-    assert_eq!(rt; table.find(b"order-1"), Some(8));
-    assert_eq!(rt; table.find(b"order-10"), Some(9));
-    assert_eq!(rt; table.find(b"order-"), None);
+    assert_eq!(rt; table.find(b"order-1"), Some(&8));
+    assert_eq!(rt; table.find(b"order-10"), Some(&9));
+    assert!(rt; table.find(b"order-").is_none());
     Ok(())
 }

@@ -1,7 +1,7 @@
 //! Replies: their statuses and bodies.
 
-use lg_codec::status_of;
 use lg_containers::{List, NameFault, Shared};
+use lg_replies::status_of;
 use lg_request_tests::body_text;
 use lg_types::{Address, Amount, Asset, Meta, Posting, Postings, Reason, Refusal, Text, Volumes};
 use lg_views::{

@@ -2,7 +2,7 @@
 
 use lg_filters::read_filter;
 use lg_json::read;
-use lg_token_texts::token_of;
+use lg_tokens::token_of;
 use lg_types::{Address, After, Asset, Expand, Filter, ListKind, Query, Span};
 use std::alloc::Global;
 use std::test::Fail;

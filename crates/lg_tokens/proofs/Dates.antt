@@ -3,7 +3,7 @@ use Rattle.std.proofs.Common.{◌≡◌, ℕ, List, [], ◌∷◌, ◌++◌, ap,
 use Rattle.std.specs.Prelude.{ℤ}
 use Rattle.lg_time.specs.Canonical.{moment_text}
 use Rattle.lg_types.specs.PartTexts.{date_text}
-use Rattle.lg_token_texts.specs.Laws.{DateReadsBack}
+use Rattle.lg_tokens.specs.Laws.{DateReadsBack}
 use Rattle.lg_tokens.specs.Parts.{Lacks}
 use Rattle.lg_tokens.proofs.Names.{ranged_lacks}
 

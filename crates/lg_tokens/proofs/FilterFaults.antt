@@ -9,8 +9,8 @@ use Rattle.lg_types.specs.declared.filters.Op.TheVariants.{Equal, Less, LessEqua
 use Rattle.lg_types.specs.declared.filters.Field.{Field}
 use Rattle.lg_types.specs.declared.filters.Value.{Value}
 use Rattle.lg_types.specs.declared.filters.Filter.{Filter, All, Compare, Has, Both', Either', Not', Row_of-Filter, end_of-Filter, more_of-Filter}
-use Rattle.lg_views.specs.FilterReadings.{one, IsFilter, AreFilters, IsComparison, IsLeaf, LeafFault, FilterFault, ItemsFault, FirstOf}
-use Rattle.lg_views.specs.Paths.{Path, below, at_item}
+use Rattle.lg_readings.specs.FilterReadings.{one, IsFilter, AreFilters, IsComparison, IsLeaf, LeafFault, FilterFault, ItemsFault, FirstOf}
+use Rattle.lg_readings.specs.Paths.{Path, below, at_item}
 use Rattle.lg_views.specs.Tokens.{op_name}
 
 no_leaf_fault : (kind : ListKind) (path : Path) (t : Tree) (r : Option (List ℕ)) → IsLeaf kind t → LeafFault kind path t r → r ≡ None

@@ -6,8 +6,8 @@ use Rattle.lg_json.specs.Grammar.{IsJson, IsValue}
 use Rattle.lg_types.specs.declared.filters.ListKind.{ListKind}
 use Rattle.lg_types.specs.declared.filters.Filter.{Filter, All, Compare, Has, Both', Either', Not'}
 use Rattle.lg_types.specs.declared.refusals.Refusal.{Refusal}
-use Rattle.lg_views.specs.FilterReadings.{IsFilter, FilterIn}
-use Rattle.lg_views.specs.Paths.{top}
+use Rattle.lg_readings.specs.FilterReadings.{IsFilter, FilterIn}
+use Rattle.lg_readings.specs.Paths.{top}
 use Rattle.lg_views.specs.Tokens.{filter_text, filter_member}
 use Rattle.lg_tokens.proofs.Cuts.{behind}
 use Rattle.lg_tokens.proofs.FilterFaults.{faultless}

@@ -10,7 +10,7 @@ use Rattle.lg_types.specs.declared.filters.ListKind.TheVariants.{Ledgers, Accoun
 use Rattle.lg_types.specs.declared.filters.After.{After}
 use Rattle.lg_types.specs.declared.filters.After.TheVariants.{Place, Address as AddressPlace, Pair}
 use Rattle.lg_views.specs.Tokens.{after_text}
-use Rattle.lg_views.specs.TokenReadings.{IsPlaceOf}
+use Rattle.lg_readings.specs.TokenReadings.{IsPlaceOf}
 use Rattle.lg_tokens.specs.Parts.{Lacks}
 use Rattle.lg_tokens.proofs.Names.{IsNameByte, lacks_all, lacks_append, address_bytes, asset_bytes, stands_all, pair_stands, quoted_before, decimal_lacks}
 

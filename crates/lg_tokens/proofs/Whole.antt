@@ -10,7 +10,7 @@ use Rattle.lg_types.specs.declared.filters.After.{After}
 use Rattle.lg_types.specs.declared.filters.Filter.{Filter}
 use Rattle.lg_types.specs.declared.queries.Query.{Query}
 use Rattle.lg_views.specs.Tokens.{kind_name, expand_text, filter_member, after_text, token_text, token}
-use Rattle.lg_views.specs.TokenReadings.{IsPageQuery, IsPlaceOf, IsTokenOf}
+use Rattle.lg_readings.specs.TokenReadings.{IsPageQuery, IsPlaceOf, IsTokenOf}
 use Rattle.lg_tokens.specs.Parts.{dated, insertion_text, group_text, head_text, place_text, tail_text, IsShown}
 use Rattle.lg_tokens.specs.Asked.{IsAsked, asked_text}
 use Rattle.lg_tokens.specs.declared.asked.Asked.{Asked}

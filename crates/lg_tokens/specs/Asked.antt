@@ -4,7 +4,7 @@ use Rattle.lg_types.specs.declared.filters.ListKind.{ListKind}
 use Rattle.lg_types.specs.declared.queries.Expand.{Expand}
 use Rattle.lg_types.specs.declared.queries.Span.{Span}
 use Rattle.lg_views.specs.Tokens.{expand_text}
-use Rattle.lg_views.specs.TokenReadings.{IsPit, IsExpand, IsSpan}
+use Rattle.lg_readings.specs.TokenReadings.{IsPit, IsExpand, IsSpan}
 use Rattle.lg_tokens.specs.declared.asked.Asked.{Asked}
 use Rattle.lg_tokens.specs.Parts.{dated, insertion_text, group_text}
 

@@ -1,3 +1,6 @@
--- the parts of a token's text
-pub mod Parts
 pub mod Asked
+pub mod Laws
+-- the parts of a token's text, as they are read
+pub mod Parts
+-- the pieces of a token's text, as they are written
+pub mod TextParts

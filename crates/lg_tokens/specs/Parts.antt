@@ -8,7 +8,7 @@ use Rattle.lg_types.specs.PartTexts.{date_text, optional_text}
 use Rattle.lg_types.specs.declared.filters.ListKind.{ListKind}
 use Rattle.lg_types.specs.declared.filters.Filter.{Filter}
 use Rattle.lg_types.specs.declared.filters.After.{After}
-use Rattle.lg_views.specs.FilterReadings.{IsFilter}
+use Rattle.lg_readings.specs.FilterReadings.{IsFilter}
 use Rattle.lg_views.specs.Tokens.{kind_name, filter_member, after_text}
 
 -- the byte isn't among the bytes

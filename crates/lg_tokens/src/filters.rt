@@ -4,16 +4,16 @@ ghost use Rattle.std.specs.Prelude.{◌≡◌, List, ℕ, ◌∷◌, ◌++◌, M
 ghost use Rattle.lg_json.specs.Tree.{Tree, tree};
 ghost use Rattle.lg_json.specs.Grammar.{Fits, IsJson};
 ghost use Rattle.lg_types.specs.declared.filters.Filter.{Filter};
-ghost use Rattle.lg_views.specs.FilterReadings.{IsFilter};
+ghost use Rattle.lg_readings.specs.FilterReadings.{IsFilter};
 ghost use Rattle.lg_views.specs.Tokens.{filter_text, filter_member};
 ghost use Rattle.lg_tokens.specs.Parts.{Lacks, IsShown};
 
 use crate::cutting::{after_word, cut_last};
+use crate::laws::{filters_are_spelled, filters_have_one_text};
 use lg_base::NoMemory;
 use lg_codec::CodecStop;
 use lg_filters::read_filter;
 use lg_json::{Json, JsonFault};
-use lg_token_texts::laws::{filters_are_spelled, filters_have_one_text};
 use lg_types::{Filter, ListKind};
 use std::alloc::Global;
 

@@ -3,14 +3,14 @@
 ghost use Rattle.std.specs.Prelude.{◌≡◌, ◌≢◌, List, ℕ, ℤ, Bool, Option, ◌<◌, ◌^◌, ◌∷◌, ◌++◌, MatchOption, IfSome, decimal, codes};
 ghost use Rattle.lg_time.specs.Moment.{IsInMoments};
 ghost use Rattle.lg_types.specs.PartTexts.{date_text};
-ghost use Rattle.lg_views.specs.TokenReadings.{IsDate};
+ghost use Rattle.lg_readings.specs.TokenReadings.{IsDate};
 ghost use Rattle.lg_views.specs.Tokens.{expand_text};
 ghost use Rattle.lg_tokens.specs.Parts.{Lacks, IsOther, dated, insertion_text, group_text};
 
 use crate::cutting::{after_word, cut_first};
-use lg_targets::read_number;
+use crate::laws::dates_read_back;
+use lg_routes::read_number;
 use lg_time::read_moment;
-use lg_token_texts::laws::dates_read_back;
 use lg_types::Expand;
 
 /// A number below 2^64 before a comma, and what stands behind it, from the comma on.

@@ -1,7 +1,7 @@
 //! The members of a token's text that not every list has.
 
 ghost use Rattle.std.specs.Prelude.{◌≡◌, List, ℕ, ℤ, Option, None, false, ◌<◌, ◌^◌, ◌++◌, MatchOption, IfSome, codes};
-ghost use Rattle.lg_views.specs.TokenReadings.{IsDate, IsSpan};
+ghost use Rattle.lg_readings.specs.TokenReadings.{IsDate, IsSpan};
 ghost use Rattle.lg_types.specs.declared.filters.ListKind.TheVariants.{Volumes};
 ghost use Rattle.lg_types.specs.declared.queries.Expand.{Expand};
 ghost use Rattle.lg_types.specs.declared.queries.Span.{Span};

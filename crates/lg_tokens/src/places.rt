@@ -5,7 +5,7 @@ ghost use Rattle.lg_types.specs.declared.filters.After.{After};
 ghost use Rattle.lg_types.specs.declared.filters.After.TheVariants.{Pair};
 ghost use Rattle.lg_types.specs.declared.filters.ListKind.TheVariants.{Ledgers, Accounts, Volumes};
 ghost use Rattle.lg_views.specs.Tokens.{after_text};
-ghost use Rattle.lg_views.specs.TokenReadings.{IsPlaceOf};
+ghost use Rattle.lg_readings.specs.TokenReadings.{IsPlaceOf};
 ghost use Rattle.lg_tokens.specs.Parts.{Lacks, place_text};
 ghost use Rattle.lg_containers.specs.AddressGrammar.{IsAddress};
 ghost use Rattle.lg_containers.specs.AssetGrammar.{IsAsset};
@@ -14,7 +14,7 @@ use crate::cutting::{after_word, cut_first};
 use crate::members::read_quoted;
 use lg_base::NoMemory;
 use lg_containers::{Grammar, Name};
-use lg_targets::read_number;
+use lg_routes::read_number;
 use lg_types::{Address, After, Asset, ListKind, NameFault};
 use std::alloc::Global;
 

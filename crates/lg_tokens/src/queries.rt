@@ -4,7 +4,7 @@ ghost use Rattle.std.specs.Prelude.{◌≡◌, List, ℕ, Some, ◌≤◌, ◌++
 ghost use Rattle.lg_types.specs.declared.filters.After.{After};
 ghost use Rattle.lg_types.specs.declared.filters.Filter.{Filter};
 ghost use Rattle.lg_types.specs.declared.queries.Query.{Query};
-ghost use Rattle.lg_views.specs.TokenReadings.{IsPlaceOf, IsPageQuery};
+ghost use Rattle.lg_readings.specs.TokenReadings.{IsPlaceOf, IsPageQuery};
 ghost use Rattle.lg_views.specs.Tokens.{filter_member, token_text};
 ghost use Rattle.lg_tokens.specs.Parts.{IsTail, IsShown, head_text, tail_text};
 ghost use Rattle.lg_tokens.specs.Asked.{IsAsked, asked_text};

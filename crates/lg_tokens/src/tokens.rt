@@ -5,16 +5,16 @@ ghost use Rattle.lg_types.specs.declared.filters.After.{After};
 ghost use Rattle.lg_types.specs.declared.queries.Query.{Query};
 ghost use Rattle.lg_codec.specs.Results.{Reads};
 ghost use Rattle.lg_types.specs.declared.refusals.Refusal.TheVariants.{Token};
-ghost use Rattle.lg_views.specs.TokenReadings.{IsPageQuery, IsTokenOf, TokenQuery};
+ghost use Rattle.lg_readings.specs.TokenReadings.{IsPageQuery, IsTokenOf, TokenQuery};
 ghost use Rattle.lg_views.specs.Tokens.{token};
 
 use crate::decoding::decode;
+use crate::laws::tokens_decode;
 use crate::queries::read_query;
+use crate::written_tokens::token_of;
 use lg_base::NoMemory;
 use lg_codec::CodecStop;
-use lg_targets::same_bytes;
-use lg_token_texts::laws::tokens_decode;
-use lg_token_texts::token_of;
+use lg_routes::same_bytes;
 use lg_types::{ListKind, Query, Refusal};
 use std::alloc::Global;
 

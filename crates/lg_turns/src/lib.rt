@@ -11,6 +11,7 @@ mod prepare;
 mod publish;
 mod rows;
 mod rule;
+mod sixteen;
 mod slot;
 mod start;
 mod stripes;

@@ -8,10 +8,10 @@ ghost use Rattle.lg_turns.specs.Stripes.{has};
 ghost use Rattle.lg_turns.specs.Rows.{AllHeld, SameHeld, Staged, Stripe};
 
 use crate::parts::{Change, Journal, Part};
+use crate::sixteen::Sixteen;
 use crate::slot::{Desk, Slot};
 use crate::stripes::StripeSet;
 use crate::word::{Name, Token};
-use lg_sixteen::Sixteen;
 use lg_types::NoMemory;
 use std::sync::MutexGuard;
 

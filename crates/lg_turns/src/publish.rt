@@ -10,10 +10,10 @@ ghost use Rattle.lg_turns.specs.Rows.{AllHeld, SameHeld, Applying, Applied, Stag
 
 use crate::parts::{Change, Journal, Part};
 use crate::rule::Added;
+use crate::sixteen::Sixteen;
 use crate::slot::{Desk, Slot};
 use crate::stripes::StripeSet;
 use crate::word::{Name, Token, Word, catch_up};
-use lg_sixteen::Sixteen;
 use std::marker::Brand;
 use std::snapshot::Snapshot;
 use std::sync::MutexGuard;

@@ -7,9 +7,9 @@ ghost use Rattle.lg_turns.specs.Rules.{IsPen};
 ghost use Rattle.lg_turns.specs.Rows.{AllHeld, mapped, Ready, Stripe, Refreshing};
 
 use crate::parts::Part;
+use crate::sixteen::Sixteen;
 use crate::slot::{Slot, refresh_slot};
 use crate::word::{Name, Token, Word};
-use lg_sixteen::Sixteen;
 use std::sync::MutexGuard;
 
 /// Whether a stripe, where it is held, isn't older than its stamp.

@@ -8,10 +8,10 @@ ghost use Rattle.lg_turns.specs.Rules.{begun};
 use crate::parts::{Journal, Part};
 use crate::pass::Pass;
 use crate::rule::Added;
+use crate::sixteen::Sixteen;
 use crate::slot::{Desk, Slot};
 use crate::turns::Turns;
 use crate::word::{Blank, Name, Token, Word};
-use lg_sixteen::Sixteen;
 use std::marker::{Brand, PhantomData};
 use std::sync::Mutex;
 

@@ -14,7 +14,6 @@ use Rattle.lg_types.specs.Log.{log, is_there}
 use Rattle.lg_views.specs.Import.{Reading, ReadLine, Read, Unread, NumberedLine, first_reading, causes, fault, line_causes, line_fault, chained, read_on, bad_or, checked_from, FollowsFrom, import_answer}
 use Rattle.lg_views.specs.Outcome.{answer_on, on_ledger, no_ledger, outcome}
 use Rattle.lg_views.specs.Laws.{ChecksImportable, ImportedAnswersAlike, AnsweredByOneLog}
-use Rattle.lg_views.specs.ReadingLaws.{CheckedIsImportable}
 use Rattle.lg_views.proofs.TestAnswers.{same_bytes, not_same_bytes, AllFalse, no_cause, all_false}
 use Rattle.lg_views.proofs.Follows.{follows-join}
 use Rattle.lg_views.proofs.Outcomes.{log-append, log-logged}
@@ -74,8 +73,3 @@ imported_answers_alike events ledger copy now there empty task later =
     ∙ ap (λ l. l ++ log (map (Logged copy) (log events ledger)) copy) empty
     ∙ log-logged copy copy (log events ledger)
     ∙ ap (λ b. if b then log events ledger else []) (same_bytes copy))
-
--- ---- bytes
-
-pub checked_is_importable : CheckedIsImportable
-checked_is_importable recompute bytes g h = checks_importable recompute h.lines g (sym h.checked)

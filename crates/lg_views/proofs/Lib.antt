@@ -8,7 +8,6 @@ pub mod ListWalks
 pub mod Outcomes
 pub mod ReadBack
 pub mod Refused
-pub mod Scripts
 pub mod TestAnswers
 pub mod Walks
 pub mod Within

@@ -1,6 +1,5 @@
 //! Laws of the definitions. Each function's contract is a law; there is nothing to run.
 
-ghost use Rattle.lg_views.specs.ReadingLaws.{ScriptsInOrder, CheckedIsImportable};
 ghost use Rattle.lg_views.specs.PageLaws.{AccountPages, EntryPages, TransactionPages, VolumePages, LedgerPages};
 ghost use Rattle.lg_views.specs.Laws.{OutcomesKeepLogs, LegalLogsImportable, AloneIsLegal, ReadsBack, RefusedAppendsNothing, ChecksImportable, ImportedAnswersAlike, AnsweredByOneLog, VolumesWithinLimit, NewMetadataShown};
 
@@ -77,15 +76,4 @@ pub fn volumes_within_limit()
 /// What the first reply shows of metadata, those of the transaction alone, is what a reading after its entry shows.
 pub fn new_metadata_shown()
     ensures { NewMetadataShown }
-{}
-
-/// The lines of a script have callers below 64 and phases below 1,000,000; their numbers rise, and their phases never fall.
-#[tactic(auto, using(crate::proofs::Scripts::scripts_in_order))]
-pub fn scripts_in_order()
-    ensures { ScriptsInOrder }
-{}
-
-/// Entries that the bytes of an import come to are an importable log.
-pub fn checked_is_importable()
-    ensures { CheckedIsImportable }
 {}

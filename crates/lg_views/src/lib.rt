@@ -6,7 +6,6 @@ mod decided;
 mod items;
 pub mod laws;
 mod lines;
-mod readings;
 mod replies;
 mod views;
 
@@ -17,7 +16,6 @@ use lg_containers::{AddressGrammar, AssetGrammar, List, NameMap};
 use lg_types::LedgerInfo;
 pub use lg_types::{NoMemory, Volumes};
 pub use lines::ScriptLine;
-pub use readings::{EntryType, ReadEntry};
 pub use replies::{Action, BulkItem, BulkView, Content, PageView, Reply};
 pub use views::{AccountView, BalanceItem, TransactionView, VolumeItem};
 

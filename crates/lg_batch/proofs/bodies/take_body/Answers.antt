@@ -1,7 +1,7 @@
 use Rattle.std.proofs.Common.{◌≡◌, ℕ, List, false, ap, sym, subst, ◌∙◌, position}
 use Rattle.std.specs.Prelude.{codes}
 use Rattle.std.specs.Str.{bytes_eq}
-use Rattle.lg_views.specs.Values.{present_in}
+use Rattle.lg_readings.specs.Values.{present_in}
 use Rattle.lg_batch.proofs.TakenOut.{is_called, value_at, value_nowhere, called, kept}
 use Rattle.lg_batch.proofs.bodies.take_body.Goals as goal
 

@@ -3,7 +3,7 @@ use Rattle.std.specs.Option.{option_map}
 use Rattle.lg_codec.specs.Seen.{members_seen}
 use Rattle.lg_json.specs.Tree.{tree}
 use Rattle.lg_json.specs.declared.json.Member.{Member}
-use Rattle.lg_views.specs.Values.{value_of}
+use Rattle.lg_readings.specs.Values.{value_of}
 use Rattle.lg_batch.proofs.SameMembers.{same_content}
 use Rattle.lg_batch.proofs.content.content_in.Goals as goal
 

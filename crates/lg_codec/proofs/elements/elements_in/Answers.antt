@@ -1,7 +1,7 @@
 use Rattle.std.proofs.Common.{◌≡◌, ◌+◌, List, [], ◌∷◌, ◌++◌, take, take_all, length, length-append, sym, subst, arith}
 use Rattle.lg_json.specs.declared.json.Json.{Json}
 use Rattle.lg_types.specs.declared.calls.Element.{Element}
-use Rattle.lg_views.specs.Elements.{AreElements}
+use Rattle.lg_readings.specs.Elements.{AreElements}
 use Rattle.lg_codec.specs.Seen.{items_seen}
 use Rattle.lg_codec.proofs.ElementLists.{are_more, up_to}
 use Rattle.lg_codec.proofs.elements.elements_in.Goals as goal

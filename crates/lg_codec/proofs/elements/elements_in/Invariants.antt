@@ -1,5 +1,5 @@
 use Rattle.std.proofs.Common.{◌≡◌, take, length}
-use Rattle.lg_views.specs.Elements.{AreElements}
+use Rattle.lg_readings.specs.Elements.{AreElements}
 use Rattle.lg_codec.specs.Seen.{items_seen}
 use Rattle.lg_codec.proofs.elements.elements_in.Given as goal
 

@@ -1,7 +1,7 @@
 use Rattle.std.proofs.Common.{◌+◌, drop, codes, sym, subst, arith}
-use Rattle.lg_views.specs.Bodies.{AccountMetaOf}
+use Rattle.lg_readings.specs.Bodies.{AccountMetaOf}
 use Rattle.lg_codec.specs.PathParts.{base_path}
-use Rattle.lg_views.specs.Paths.{below}
+use Rattle.lg_readings.specs.Paths.{below}
 use Rattle.lg_codec.proofs.Onward.{AccountsGoOn, accounts_more, accounts_stop, accounts_end}
 use Rattle.lg_codec.proofs.metadata.accounts_in.Goals as goal
 

@@ -1,6 +1,6 @@
 use Rattle.std.proofs.Common.{drop, codes}
 use Rattle.lg_codec.specs.PathParts.{base_path}
-use Rattle.lg_views.specs.Paths.{below}
+use Rattle.lg_readings.specs.Paths.{below}
 use Rattle.lg_codec.proofs.Onward.{AccountsGoOn}
 use Rattle.lg_codec.proofs.metadata.accounts_in.Given as goal
 

@@ -1,6 +1,6 @@
 use Rattle.std.proofs.Common.{◌≡◌, drop}
 use Rattle.lg_containers.specs.NameTable as table
-use Rattle.lg_views.specs.Bodies.{with_texts}
+use Rattle.lg_readings.specs.Bodies.{with_texts}
 use Rattle.lg_codec.specs.PathParts.{holder_path}
 use Rattle.lg_codec.specs.Seen.{members_seen}
 use Rattle.lg_codec.proofs.metadata.texts_in.Given as goal

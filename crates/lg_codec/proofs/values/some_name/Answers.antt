@@ -1,7 +1,6 @@
 use Rattle.std.proofs.Common.{refl}
 use Rattle.lg_codec.specs.PathParts.{path_of}
-use Rattle.lg_codec.proofs.Nested.{not_zero}
-use Rattle.lg_codec.proofs.Readings.{onward, halted, named}
+use Rattle.lg_codec.proofs.Readings.{onward, halted, not_zero, named}
 use Rattle.lg_codec.proofs.values.some_name.Goals as goal
 
 pub returns-in_err-read_name : goal.returns-in_err-read_name

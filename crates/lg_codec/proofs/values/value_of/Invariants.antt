@@ -1,6 +1,6 @@
 use Rattle.std.proofs.Common.{◌≡◌, drop}
 use Rattle.lg_codec.specs.Seen.{members_seen}
-use Rattle.lg_views.specs.Values as values
+use Rattle.lg_readings.specs.Values as values
 use Rattle.lg_codec.proofs.values.value_of.Given as goal
 
 abbrev pub invariant-loop-member : goal.invariant-loop-member

@@ -1,7 +1,6 @@
 use Rattle.std.proofs.Common.{sym}
 use Rattle.lg_codec.specs.PathParts.{path_of}
-use Rattle.lg_codec.proofs.Nested.{not_zero}
-use Rattle.lg_codec.proofs.Readings.{refused, some_member}
+use Rattle.lg_codec.proofs.Readings.{refused, not_zero, some_member}
 use Rattle.lg_codec.proofs.writes.check_empty.Goals as goal
 
 pub returns-else-is_empty : goal.returns-else-is_empty

@@ -4,7 +4,7 @@ use Rattle.lg_json.specs.declared.json.Member.{Member}
 use Rattle.lg_json.specs.declared.json.Json.{Json}
 use Rattle.lg_json.specs.Tree.{tree}
 use Rattle.lg_types.specs.declared.filters.Filter.{Filter}
-use Rattle.lg_views.specs.Paths.{Path, at_item}
+use Rattle.lg_readings.specs.Paths.{Path, at_item}
 use Rattle.lg_codec.specs.Results.{Reads}
 use Rattle.lg_codec.specs.Seen.{items_seen}
 use Rattle.lg_filters.specs.AtPaths.{FilterAt, ItemsAt}

@@ -1,5 +1,5 @@
 use Rattle.std.specs.Option.{option_map}
-use Rattle.lg_targets.specs.Seen.{segments_seen, bytes_seen}
+use Rattle.lg_routes.specs.Seen.{segments_seen, bytes_seen}
 use Rattle.lg_routes.specs.Body.{body_seen}
 use Rattle.lg_routes.proofs.Routing.{request_of}
 use Rattle.lg_routes.proofs.calls.answer_of_request.Goals as goal

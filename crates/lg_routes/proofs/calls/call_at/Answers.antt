@@ -1,10 +1,10 @@
 use Rattle.std.proofs.Common.{map, sym, ◌∙◌}
 use Rattle.form_urlencoded.specs.Form.{raw_pairs}
-use Rattle.lg_views.specs.Routes.{routes_at}
-use Rattle.lg_views.specs.Targets.{parameter_of}
+use Rattle.lg_readings.specs.Routes.{routes_at}
+use Rattle.lg_readings.specs.Targets.{parameter_of}
 use Rattle.std.specs.Prelude.{Some}
-use Rattle.lg_targets.specs.Seen.{segments_seen, bytes_seen}
-use Rattle.lg_targets.specs.Table.{route_seen}
+use Rattle.lg_routes.specs.Seen.{segments_seen, bytes_seen}
+use Rattle.lg_routes.specs.Table.{route_seen}
 use Rattle.lg_routes.specs.Body.{body_seen}
 use Rattle.lg_routes.proofs.Routing.{asks_found, asks_no_method, asks_no_path}
 use Rattle.lg_routes.proofs.calls.call_at.Goals as goal

@@ -1,9 +1,9 @@
 use Rattle.std.proofs.Common.{ℕ, List, Option, Vec, Global, map, ap}
 use Rattle.std.specs.declared.borrow.CowSlice.{CowSlice}
 use Rattle.form_urlencoded.specs.Form.{raw_pairs}
-use Rattle.lg_views.specs.Targets.{parameter_of}
+use Rattle.lg_readings.specs.Targets.{parameter_of}
 use Rattle.lg_codec.specs.Results.{Reads}
-use Rattle.lg_targets.specs.Seen.{segments_seen, bytes_seen}
+use Rattle.lg_routes.specs.Seen.{segments_seen, bytes_seen}
 use Rattle.lg_routes.specs.Body.{body_seen}
 use Rattle.lg_routes.specs.Calls.{AsksAt}
 use Rattle.lg_routes.proofs.Lent.{at_some}

@@ -1,4 +1,4 @@
-use Rattle.lg_targets.specs.Seen.{bytes_seen}
+use Rattle.lg_routes.specs.Seen.{bytes_seen}
 use Rattle.lg_routes.specs.Body.{body_seen}
 use Rattle.lg_routes.proofs.Routing.{call_is}
 use Rattle.lg_routes.proofs.calls.call_of_request.Goals as goal

@@ -1,5 +1,5 @@
 use Rattle.std.specs.Option.{option_map}
-use Rattle.lg_targets.specs.Seen.{segments_seen}
+use Rattle.lg_routes.specs.Seen.{segments_seen}
 use Rattle.lg_routes.proofs.Routing.{kind_is}
 use Rattle.lg_routes.proofs.kinds.body_kind.Goals as goal
 

@@ -1,9 +1,9 @@
 use Rattle.std.proofs.Common.{◌≡◌, ℕ, List, Option, Vec, Global, ap}
 use Rattle.std.specs.Prelude.{IfOk}
 use Rattle.std.specs.declared.borrow.CowSlice.{CowSlice}
-use Rattle.lg_views.specs.Routes as routes
-use Rattle.lg_targets.specs.Seen.{segments_seen}
-use Rattle.lg_targets.specs.Table.{found_in}
+use Rattle.lg_readings.specs.Routes as routes
+use Rattle.lg_routes.specs.Seen.{segments_seen}
+use Rattle.lg_routes.specs.Table.{found_in}
 use Rattle.lg_routes.specs.Calls.{kind_found, recomputes_in}
 use Rattle.lg_routes.proofs.Lent.{at_some}
 use Rattle.lg_routes.proofs.kinds.kind_at_path.Goals as goal

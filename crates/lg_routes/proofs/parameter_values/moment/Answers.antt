@@ -1,5 +1,5 @@
 use Rattle.std.proofs.Common.{ℕ, List, Option, subst}
-use Rattle.lg_views.specs.Parameters as values
+use Rattle.lg_readings.specs.Parameters as values
 use Rattle.lg_codec.specs.Results.{Reads}
 use Rattle.lg_routes.proofs.parameter_values.moment.Goals as goal
 

@@ -1,9 +1,9 @@
 use Rattle.std.proofs.Common.{◌≡◌, drop}
 use Rattle.std.specs.Prelude.{codes}
 use Rattle.std.specs.List.{list_all}
-use Rattle.lg_views.specs.Parameters as values
-use Rattle.lg_views.specs.Targets.{all_values}
-use Rattle.lg_targets.specs.Seen.{parameters_seen}
+use Rattle.lg_readings.specs.Parameters as values
+use Rattle.lg_readings.specs.Targets.{all_values}
+use Rattle.lg_routes.specs.Seen.{parameters_seen}
 use Rattle.lg_routes.proofs.parameter_words.are_expand_words.Given as goal
 
 abbrev pub invariant-loop-parameter : goal.invariant-loop-parameter

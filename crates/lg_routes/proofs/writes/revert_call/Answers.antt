@@ -2,7 +2,7 @@ use Rattle.std.proofs.Common.{refl}
 use Rattle.lg_codec.proofs.Readings.{onward, halted}
 use Rattle.lg_routes.proofs.Readings.{onward_tree, halted_tree, onward_by, halted_by}
 use Rattle.lg_types.specs.declared.calls.Write.TheVariants.{Revert}
-use Rattle.lg_views.specs.Requests.{WriteOf}
+use Rattle.lg_readings.specs.Requests.{WriteOf}
 use Rattle.lg_routes.proofs.writes.revert_call.Goals as goal
 
 pub returns-in_err-ledger : goal.returns-in_err-ledger

@@ -3,7 +3,7 @@ use Rattle.std.proofs.lemmas.Result.{IfOk-weaker}
 use Rattle.std.proofs.lemmas.Option.{MatchOption-at_some, MatchOption-at_none}
 use Rattle.lg_json.specs.Tree.{Tree, tree}
 use Rattle.lg_json.specs.declared.json.Json.{Json}
-use Rattle.lg_views.specs.FilterReadings.{IsFilter}
+use Rattle.lg_readings.specs.FilterReadings.{IsFilter}
 use Rattle.lg_views.specs.Tokens.{filter_text}
 use Rattle.lg_tokens.proofs.FilterTexts.{json_of}
 use Rattle.lg_tokens.proofs.filters.filter_of_text.Goals as goal

@@ -2,7 +2,7 @@ use Rattle.std.proofs.Common.{◌≡◌, Option, Some, sym, ap, subst, ◌∙◌
 use Rattle.std.specs.Prelude.{ℤ}
 use Rattle.std.proofs.lemmas.Int.{to_z-of_z}
 use mir.Val.{to_z, of_z}
-use Rattle.lg_views.specs.TokenReadings.{IsDate}
+use Rattle.lg_readings.specs.TokenReadings.{IsDate}
 use Rattle.lg_tokens.proofs.Choices.{dated_absent, dated_present}
 use Rattle.lg_tokens.proofs.members.read_dated.Goals as goal
 

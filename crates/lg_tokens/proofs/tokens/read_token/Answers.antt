@@ -1,7 +1,7 @@
 use Rattle.std.proofs.Common.{inl, inr, refl}
 use Rattle.std.proofs.lemmas.Option.{MatchOption-at_some, MatchOption-at_none}
 use Rattle.lg_codec.proofs.Readings.{same_reading}
-use Rattle.lg_views.specs.TokenReadings.{IsTokenOf, TokenQuery}
+use Rattle.lg_readings.specs.TokenReadings.{IsTokenOf, TokenQuery}
 use Rattle.lg_tokens.proofs.tokens.read_token.Goals as goal
 
 pub returns-in-Some : goal.returns-in-Some

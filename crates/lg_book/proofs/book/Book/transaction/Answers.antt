@@ -1,4 +1,4 @@
-use Rattle.std.proofs.Common.{◌≡◌, ℕ, ℤ, List, [], Option, Some, None, ap, sym, subst, ◌∙◌}
+use Rattle.std.proofs.Common.{◌≡◌, ℕ, ℤ, List, [], Option, Some, None, ap, sym, subst, ◌∙◌, refl}
 use Rattle.lg_types.specs.declared.records.Entry.{Entry}
 use Rattle.lg_book.specs.Booked.{Booked}
 use Rattle.lg_book.proofs.BookReads.{at_name, empty_log, transaction_is}
@@ -6,7 +6,7 @@ use Rattle.lg_book.specs.Reading.{transaction_at}
 use Rattle.lg_book.proofs.book.Book.transaction.Goals as goal
 
 pub returns-in-None : goal.returns-in-None
-returns-in-None c = sym (ap (λ (g : List Entry). transaction_at g c.args.id) (empty_log c.self.inside.events.items c.self.inside.added c.self.inside.ledgers.items c.self.invariant c.args.name.now c.args.self.now.events (ap (λ (b : Booked). b.events) c.self.view_is) (at_name c.args.name.now c.bytes.result.now c.self.inside.ledgers.items c.deref.result.now None c.in-None.ensures c.bytes.ensures.value c.deref.ensures.value)))
+returns-in-None c = sym (ap (λ (g : List Entry). transaction_at g c.args.id) (empty_log c.self.inside.events.items c.self.inside.added c.self.inside.ledgers c.self.invariant c.args.name.now c.args.self.now.events (ap (λ (b : Booked). b.events) c.self.view_is) (at_name c.args.name.now c.bytes.result.now c.self.inside.ledgers c.self.inside.ledgers None c.in-None.ensures c.bytes.ensures.value refl)))
 
 pub returns-in-Some : goal.returns-in-Some
-returns-in-Some c = c.transaction_in.ensures ∙ transaction_is c.self.inside.events.items c.self.inside.added c.self.inside.ledgers.items c.self.invariant c.args.name.now c.args.self.now.events (ap (λ (b : Booked). b.events) c.self.view_is) c.in-Some.index.now (at_name c.args.name.now c.bytes.result.now c.self.inside.ledgers.items c.deref.result.now (Some c.in-Some.index.now) c.in-Some.ensures c.bytes.ensures.value c.deref.ensures.value) c.deref-in-Some.result.now c.deref-in-Some.ensures.value c.args.id
+returns-in-Some c = c.transaction_in.ensures ∙ transaction_is c.self.inside.events.items c.self.inside.added c.self.inside.ledgers c.self.invariant c.args.name.now c.args.self.now.events (ap (λ (b : Booked). b.events) c.self.view_is) c.in-Some.index.now (at_name c.args.name.now c.bytes.result.now c.self.inside.ledgers c.self.inside.ledgers (Some c.in-Some.index.now) c.in-Some.ensures c.bytes.ensures.value refl) c.deref.result.now c.deref.ensures.value c.args.id

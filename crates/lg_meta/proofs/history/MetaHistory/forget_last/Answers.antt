@@ -5,7 +5,7 @@ use Rattle.lg_meta.proofs.history.MetaHistory.forget_last.Goals as goal
 
 pub invariant_of-self : goal.invariant_of-self
 invariant_of-self c =
-    forgotten _ _ _ _ _ _ c.self.invariant (omega (arith, c.self.inside.changes.ok.0)) (omega (arith, c.self.inside.changes.ok.0)) c.truncate.ensures.items c.cut.ensures.order c.cut.ensures.kept
+    forgotten _ _ _ _ _ _ c.self.invariant (omega (arith, c.self.inside.changes.ok.0)) (omega (arith, c.self.inside.changes.ok.0)) c.truncate.ensures.items c.cut.ensures
 
 pub returns-then-self-len : goal.returns-then-self-len
 returns-then-self-len c =

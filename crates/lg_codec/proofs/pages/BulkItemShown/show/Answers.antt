@@ -1,4 +1,0 @@
-use Rattle.lg_codec.proofs.pages.BulkItemShown.show.Goals as goal
-
-pub returns-in-Good : goal.returns-in-Good
-returns-in-Good g c = rw c.in-Good.is c.feed_all.ensures

@@ -1,0 +1,5 @@
+pub mod Buffering
+pub mod MessageLemmas
+pub mod OneMessage
+pub mod TextLemmas
+pub mod Wanting

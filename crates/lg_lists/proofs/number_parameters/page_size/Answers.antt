@@ -1,6 +1,0 @@
-use Rattle.lg_targets.specs.Seen.{parameters_seen}
-use Rattle.lg_lists.proofs.Sizes.{absent_size}
-use Rattle.lg_lists.proofs.number_parameters.page_size.Goals as goal
-
-pub returns-in-None : goal.returns-in-None
-returns-in-None c = absent_size (parameters_seen c.args.parameters.now) (rw c.in-None.is at c.first_value.ensures)

@@ -1,0 +1,15 @@
+pub mod Answers
+pub mod Bodies
+pub mod Checked
+pub mod Elements
+pub mod EntryLines
+pub mod FilterReadings
+pub mod Parameters
+pub mod Paths
+pub mod ReadingLaws
+pub mod Requests
+pub mod Routes
+pub mod Script
+pub mod Targets
+pub mod TokenReadings
+pub mod Values

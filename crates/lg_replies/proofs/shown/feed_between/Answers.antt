@@ -1,0 +1,12 @@
+use Rattle.lg_base.proofs.Feeds.{then, stop}
+use Rattle.lg_replies.proofs.shown.feed_between.Goals as goal
+
+pub returns-in_err-piece : goal.returns-in_err-piece
+returns-in_err-piece g c = stop _ c.from_residual.ensures.0 c.in_err-piece.ensures
+
+pub returns-in_err-feed_with_commas : goal.returns-in_err-feed_with_commas
+returns-in_err-feed_with_commas g c =
+    then c.in_ok-piece.ensures (stop _ c.from_residual-in_err-feed_with_commas.ensures.0 c.in_err-feed_with_commas.ensures)
+
+pub returns : goal.returns
+returns g c = then c.in_ok-piece.ensures (then c.in_ok-feed_with_commas.ensures c.piece-2.ensures)

@@ -1,4 +1,0 @@
-pub mod Names
-pub mod Numerals
-pub mod Pieces
-pub mod RouteLists

@@ -1,6 +1,0 @@
-use Rattle.lg_base.proofs.Feeds.{same_text}
-use Rattle.lg_token_texts.proofs.Texts.{quoted_in_brackets}
-use Rattle.lg_token_texts.proofs.comparisons.feed_in_brackets.Goals as goal
-
-pub returns : goal.returns
-returns g c = same_text (quoted_in_brackets c.args.word.now c.args.name.now) c.feed_all.ensures

@@ -1,5 +1,0 @@
-use Rattle.lg_token_texts.proofs.SpelledFilters.{filters_spelled}
-use Rattle.lg_token_texts.proofs.laws.filters_are_spelled.Goals as goal
-
-pub returns : goal.returns
-returns c = filters_spelled

@@ -1,5 +1,0 @@
-use Rattle.std.proofs.Common.{[], sym, ◌∙◌}
-use Rattle.lg_token_texts.proofs.tokens.token_bytes.Goals as goal
-
-pub returns-in-Ok : goal.returns-in-Ok
-returns-in-Ok c = sym c.into_bytes.ensures ∙ c.in-Ok.ensures.ok [] c.new-feed.ensures
