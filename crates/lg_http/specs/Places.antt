@@ -31,6 +31,6 @@ IsNext limit left bytes (Refused why) = IsRefused limit bytes why
 IsNext limit left bytes Cut = EndsInside limit bytes × IsAtEnd left
 IsNext limit left bytes Closed = (bytes ≡ []) × IsAtEnd left
 
--- there is no whole message yet, and none is refused so far
+-- more bytes are wanted: there is no whole message yet, and no limit is passed
 abbrev pub WantsMessage : (List ℕ → List ℕ → ℕ) → List ℕ → Type 0
 WantsMessage limit bytes = WantsMore bytes ⊎ LacksBody limit bytes

@@ -19,8 +19,8 @@ use lg_base::{NoMemory, Source};
 use lg_heads::{Head, Span};
 use lg_inlet::{BodyEnd, Found, Inbox, Stopped};
 
-/// Finds the next message at the front of the unread bytes, and reads as long as there is no whole one and none is
-/// refused. The message stays unread.
+/// Finds the next message at the front of the unread bytes, and reads as long as there is neither a whole one nor a limit
+/// passed. The message stays unread.
 pub fn next_message<S: Source, L: BodyLimits>(
     inbox: &mut Inbox,
     source: &mut S,
