@@ -19,7 +19,7 @@ use Rattle.lg_readings.specs.Elements.{data_path, TargetIn}
 use Rattle.lg_readings.specs.EntryLines.{BodyIn}
 use Rattle.lg_readings.specs.declared.readings.EntryType.TheVariants as types
 use Rattle.lg_entry_lines.specs.Laws.{GivesOnly}
-use Rattle.lg_entry_lines.specs.Records.{IsTarget, IsBody}
+use Rattle.lg_types.specs.Records.{IsTarget, IsBody}
 use Rattle.lg_entry_lines.proofs.Metadata.{meta_tree, meta_is_object, meta_fits, meta_reads, account_meta_tree, account_meta_is_object, account_meta_fits, accounts_read}
 use Rattle.lg_entry_lines.proofs.Names.{address_utf8}
 use Rattle.lg_entry_lines.proofs.Objects.{Follows, nothing_more, one_more, object, none_fits, one_fits, object_fits}

@@ -27,7 +27,7 @@ use Rattle.lg_readings.specs.Values.{under, id_of, SomeName}
 use Rattle.lg_readings.specs.Checked.{Shows}
 use Rattle.lg_readings.specs.EntryLines.{form_of, MarkIn, LineHash, LineIn}
 use Rattle.lg_entry_lines.specs.Laws.{GivesOnly, ReadsAs, EntryReadsBack, FirstLineReadsBack}
-use Rattle.lg_entry_lines.specs.Records.{IsHash, IsMark, IsEntry}
+use Rattle.lg_types.specs.Records.{IsHash, IsMark, IsEntry}
 use Rattle.lg_entry_lines.proofs.Bodies.{type_name, data_members, body_members, body_object, data_fits, body_reads}
 use Rattle.lg_entry_lines.proofs.Hashes.{hash_is_string}
 use Rattle.lg_entry_lines.proofs.Moments.{date_is_string}

@@ -7,17 +7,27 @@ use Rattle.lg_types.specs.EntryTexts.{body_text, mark_text}
 use Rattle.lg_types.specs.PartTexts.{date_text, hash_text, optional_text}
 use Rattle.std.specs.List.{AllByRecursion, AllZip, concat, filter, enumerate_from, slice_split, onto_first}
 use Rattle.lg_json.specs.Tree.{Tree}
+use Rattle.lg_types.specs.declared.calls.Batch.{Batch}
+use Rattle.lg_types.specs.declared.calls.Batch.TheVariants.{Ready}
+use Rattle.lg_types.specs.declared.calls.Call.TheVariants as call
 use Rattle.lg_types.specs.declared.records.Entry.{Entry}
+use Rattle.lg_types.specs.declared.records.Event.{Event}
+use Rattle.lg_types.specs.Log.{log}
 use Rattle.lg_readings.specs.Answers.{Answer}
 use Rattle.lg_readings.specs.Checked.{is_newline, has_bytes, IsReadAs, IsLine, IsNumberedLine}
 use Rattle.lg_readings.specs.EntryLines.{LineOf}
-use Rattle.lg_views.specs.Import.{ReadLine, Read, NumberedLine, export, checked_lines}
+use Rattle.lg_views.specs.declared.answers.Answer.{Answer as Answered}
+use Rattle.lg_views.specs.declared.lines.ScriptLine.{ScriptLine}
+use Rattle.lg_views.specs.Import.{IsFaultless, ReadLine, Read, NumberedLine, export, checked_lines}
 use Rattle.lg_views.specs.Laws.{lines_from}
+use Rattle.lg_views.specs.Outcome.{outcome, AnswerAlike}
 use Rattle.lg_views.specs.ReplyTexts.{line_text}
 use Rattle.lg_readings.specs.declared.readings.ReadEntry.{ReadEntry}
+use Rattle.lg_views.proofs.Histories.{legal_logs_faultless, legal_logs_well_made}
+use Rattle.lg_views.proofs.Imported.{imported_answers_alike}
 use Rattle.lg_views.proofs.ReadBack.{reads_back}
-use Rattle.lg_entry_lines.specs.Laws.{ReadsAs, ExportReadsBack}
-use Rattle.lg_entry_lines.specs.Records.{IsEntry}
+use Rattle.lg_entry_lines.specs.Laws.{ReadsAs, ExportReadsBack, IsGoodHistory, WellMadeImportable, LegalLogsImportable, ExportedAnswersAlike}
+use Rattle.lg_types.specs.Records.{IsEntry}
 use Rattle.lg_entry_lines.proofs.Entries.{entry_reads_back}
 use Rattle.lg_entry_lines.proofs.LineBreaks.{line_unbroken}
 
@@ -88,13 +98,31 @@ only_lines recompute n (e ∷ es) (l ∷ ls) h k =
     λ i. first i ∷ others i
 
 pub export_reads_back : ExportReadsBack
-export_reads_back recompute g importable h = record {
+export_reads_back recompute g faultless h = record {
   comes = record {
     lines = lines_from 1 g;
     read = subst (λ (ls : List (ℕ × List ℕ)). AllZip (IsNumberedLine recompute) ls (lines_from 1 g)) (sym (lines_are 1 g h)) (all_lines recompute 1 g h);
-    checked = sym (reads_back recompute g importable);
+    checked = sym (reads_back recompute g faultless);
   };
   only = λ b c.
       let same : c.lines ≡ lines_from 1 g = only_lines recompute 1 g c.lines h (subst (λ (ls : List (ℕ × List ℕ)). AllZip (IsNumberedLine recompute) ls c.lines) (lines_are 1 g h) c.read) in
-      c.checked ∙ ap (checked_lines recompute) same ∙ reads_back recompute g importable;
+      c.checked ∙ ap (checked_lines recompute) same ∙ reads_back recompute g faultless;
 }
+
+pub well_made_importable : WellMadeImportable
+well_made_importable g faultless h = record { comes = (export_reads_back false g faultless h).comes }
+
+legal-log : (events : List Event) (lines : List ScriptLine) (answers : List Answered) (ledger : List ℕ) → IsGoodHistory events lines answers → IsFaultless (log events ledger) × AllByRecursion IsEntry (log events ledger)
+legal-log events lines answers ledger h =
+    ((legal_logs_faultless events lines answers h.batches h.legal).each ledger, (legal_logs_well_made events lines answers h.good h.legal h.room).each ledger)
+
+pub legal_logs_importable : LegalLogsImportable
+legal_logs_importable events lines answers ledger h =
+    let both = legal-log events lines answers ledger h in
+    well_made_importable (log events ledger) both.0 both.1
+
+pub exported_answers_alike : ExportedAnswersAlike
+exported_answers_alike events others lines answers recompute ledger copy batch now h there here empty read =
+    let both = legal-log events lines answers ledger h in
+    let same : batch ≡ Ready (log events ledger) = (export_reads_back recompute (log events ledger) both.0 both.1).only batch read in
+    subst (λ (b : Batch). AnswerAlike events ledger (others ++ (outcome others (call.Import copy b) now).1) copy) (sym same) (imported_answers_alike events others ledger copy now there here empty)

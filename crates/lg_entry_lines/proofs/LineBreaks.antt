@@ -16,7 +16,7 @@ use Rattle.lg_types.specs.declared.records.Target.{Target}
 use Rattle.lg_types.specs.declared.records.Target.TheVariants.{Account, Transaction as TransactionOf}
 use Rattle.lg_types.specs.declared.records.Transaction.{Transaction}
 use Rattle.lg_views.specs.ReplyTexts.{line_text}
-use Rattle.lg_entry_lines.specs.Records.{IsId, IsHash, IsPosting, IsTextPair, IsMeta, IsAccountPair, IsAccountMeta, IsTransaction, IsTarget, IsBody, IsMarkOf, IsEntry}
+use Rattle.lg_types.specs.Records.{IsId, IsHash, IsPosting, IsTextPair, IsMeta, IsAccountPair, IsAccountMeta, IsTransaction, IsTarget, IsBody, IsMarkOf, IsEntry}
 use Rattle.lg_entry_lines.proofs.Breaks.{IsUnbroken, unbroken_nil, no_piece, a_piece, unbroken_pieces, unbroken_literal, unbroken_quoted, unbroken_string, unbroken_decimal, unbroken_list, unbroken_members}
 use Rattle.lg_entry_lines.proofs.Hashes.{hash_plain}
 use Rattle.lg_entry_lines.proofs.Moments.{moment_plain, date_is}

@@ -12,7 +12,7 @@ use Rattle.lg_types.specs.EntryTexts.{meta_text, account_meta_text}
 use Rattle.lg_readings.specs.Paths.{Path, below}
 use Rattle.lg_readings.specs.Bodies.{with_texts, texts_of, AccountIn, WithAccounts, Accounts}
 use Rattle.lg_entry_lines.specs.Laws.{GivesOnly}
-use Rattle.lg_entry_lines.specs.Records.{IsTextPair, IsMeta, IsAccountPair, IsAccountMeta}
+use Rattle.lg_types.specs.Records.{IsTextPair, IsMeta, IsAccountPair, IsAccountMeta}
 use Rattle.lg_entry_lines.proofs.Names.{address_utf8}
 use Rattle.lg_entry_lines.proofs.Objects.{members_of_pairs, IsSpelled, object_is, pairs_fit}
 use Rattle.lg_entry_lines.proofs.Readings.{only_known, only_gives, only_form, only_then}

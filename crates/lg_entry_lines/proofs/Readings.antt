@@ -14,7 +14,7 @@ use Rattle.lg_readings.specs.Answers.{Answer, known, gives, Then, GoesOn, IfForm
 use Rattle.lg_readings.specs.Values.{number_of, Name, Moment, MomentText}
 use Rattle.lg_readings.specs.EntryLines.{Hash, HashText}
 use Rattle.lg_entry_lines.specs.Laws.{GivesOnly}
-use Rattle.lg_entry_lines.specs.Records.{IsHash}
+use Rattle.lg_types.specs.Records.{IsHash}
 use Rattle.lg_entry_lines.proofs.Hashes.{same_hash}
 
 pub only_known : {A : Type 0} {answer : Answer A} {a : A} → answer ≡ Ok a → GivesOnly (known answer) a

@@ -26,7 +26,7 @@ use Rattle.lg_readings.specs.Values.{under, Moment}
 use Rattle.lg_readings.specs.Bodies.{PostingOf, WithPostings}
 use Rattle.lg_readings.specs.EntryLines.{one_or_more, PostingsOf, ReferenceOf, TransactionIn, TransactionOf, transaction_path}
 use Rattle.lg_entry_lines.specs.Laws.{GivesOnly}
-use Rattle.lg_entry_lines.specs.Records.{IsId, IsPosting, IsTransaction}
+use Rattle.lg_types.specs.Records.{IsId, IsPosting, IsTransaction}
 use Rattle.lg_entry_lines.proofs.Metadata.{meta_tree, meta_is_object, meta_fits, meta_reads}
 use Rattle.lg_entry_lines.proofs.Moments.{date_is_string}
 use Rattle.lg_entry_lines.proofs.Names.{address_utf8, asset_utf8}

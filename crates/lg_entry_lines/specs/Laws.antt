@@ -1,21 +1,30 @@
 -- The laws of an entry's line.
-use Rattle.std.specs.Prelude.{◌≡◌, ℕ, Bool, List, Ok, Err}
+use Rattle.std.specs.Prelude.{◌≡◌, ℕ, ◌^◌, ◌<◌, ℤ, Bool, true, List, [], ◌++◌, length, Ok, Err}
 use Rattle.std.specs.List.{AllByRecursion}
 use Rattle.lg_json.specs.Tree.{Tree}
 use Rattle.lg_types.specs.declared.calls.Batch.{Batch}
 use Rattle.lg_types.specs.declared.calls.Batch.TheVariants.{Ready}
+use Rattle.lg_types.specs.declared.calls.Call.TheVariants as call
 use Rattle.lg_types.specs.EntryTexts.{entry_text}
 use Rattle.lg_types.specs.declared.forms.EntryForm.TheVariants.{FirstLine}
 use Rattle.lg_types.specs.declared.records.Entry.{Entry}
+use Rattle.lg_types.specs.declared.records.Event.{Event}
 use Rattle.lg_types.specs.declared.refusals.Reason.{Reason}
 use Rattle.lg_types.specs.declared.refusals.Refusal.{Refusal}
 use Rattle.lg_types.specs.declared.refusals.Refusal.TheVariants.{Member}
 use Rattle.lg_readings.specs.Answers.{Answer}
-use Rattle.lg_readings.specs.Checked.{Shows, IsChecked}
+use Rattle.lg_types.specs.Lists.{Each}
+use Rattle.lg_types.specs.Log.{log, is_there}
+use Rattle.lg_types.specs.Records.{IsEntry}
+use Rattle.lg_readings.specs.Checked.{Shows, IsChecked, IsImportable}
 use Rattle.lg_readings.specs.EntryLines.{LineOf}
-use Rattle.lg_views.specs.Import.{IsImportable, export}
+use Rattle.lg_views.specs.declared.answers.Answer.{Answer as Answered}
+use Rattle.lg_views.specs.declared.lines.ScriptLine.{ScriptLine}
+use Rattle.lg_views.specs.History.{Legal}
+use Rattle.lg_views.specs.Import.{IsFaultless, export}
+use Rattle.lg_views.specs.Laws.{IsGoodLine, IsFaultlessLine}
+use Rattle.lg_views.specs.Outcome.{outcome, AnswerAlike}
 use Rattle.lg_views.specs.ReplyTexts.{line_text}
-use Rattle.lg_entry_lines.specs.Records.{IsEntry}
 
 -- the reading gives this value, and nothing else
 pub record GivesOnly {A : Type 0} (reading : Answer A → Type 0) (a : A) : Type 0 where
@@ -37,13 +46,35 @@ EntryReadsBack = (e : Entry) → IsEntry e → ReadsAs (line_text e) e 2
 abbrev pub FirstLineReadsBack : Type 0
 FirstLineReadsBack = (e : Entry) → IsEntry e → ReadsAs (entry_text e FirstLine) e 1
 
--- the bytes of an export of an importable log come to that log, and to nothing else
+-- the bytes of an export of a faultless log come to that log, and to nothing else
 pub record ComesTo (recompute : Bool) (bytes : List ℕ) (batch : Batch) : Type 0 where
   pub comes : IsChecked recompute bytes batch
   pub only : (b : Batch) → IsChecked recompute bytes b → b ≡ batch
 
 abbrev pub ExportReadsBack : Type 0
-ExportReadsBack = (recompute : Bool) (g : List Entry) → IsImportable g → AllByRecursion IsEntry g → ComesTo recompute (export g) (Ready g)
+ExportReadsBack = (recompute : Bool) (g : List Entry) → IsFaultless g → AllByRecursion IsEntry g → ComesTo recompute (export g) (Ready g)
+
+-- a faultless log whose entries are well made is importable
+abbrev pub WellMadeImportable : Type 0
+WellMadeImportable = (g : List Entry) → IsFaultless g → AllByRecursion IsEntry g → IsImportable g
+
+-- in a legal history of good calls whose batches are faultless, with fewer events than ids, every log is importable
+pub record IsGoodHistory (events : List Event) (lines : List ScriptLine) (answers : List Answered) : Type 0 where
+  pub good : Each IsGoodLine lines
+  pub batches : Each IsFaultlessLine lines
+  pub legal : Legal events lines answers
+  pub room : length events < 2 ^ 64
+
+abbrev pub LegalLogsImportable : Type 0
+LegalLogsImportable = (events : List Event) (lines : List ScriptLine) (answers : List Answered) (ledger : List ℕ) → IsGoodHistory events lines answers → IsImportable (log events ledger)
+
+-- whatever the exported bytes of such a log come to, imported into a ledger without entries, of this or of another list of events,
+-- makes that ledger answer alike
+abbrev pub ExportedAnswersAlike : Type 0
+ExportedAnswersAlike = (events others : List Event) (lines : List ScriptLine) (answers : List Answered) (recompute : Bool) (ledger copy : List ℕ) (batch : Batch) (now : ℤ)
+    → IsGoodHistory events lines answers → is_there events ledger ≡ true → is_there others copy ≡ true → log others copy ≡ []
+    → IsChecked recompute (export (log events ledger)) batch
+    → AnswerAlike events ledger (others ++ (outcome others (call.Import copy batch) now).1) copy
 
 -- a refusal of a member, for a reason
 pub record IsMemberRefusal (refusal : Refusal) : Type 0 where

@@ -1,4 +1,3 @@
 pub mod AnswerLaws
 pub mod Laws
 pub mod Lines
-pub mod Records

@@ -9,7 +9,7 @@ ghost use Rattle.lg_readings.specs.Checked.{IsCause};
 ghost use Rattle.lg_views.specs.Import.{Unread};
 ghost use Rattle.lg_entry_lines.specs.Laws.{IsMemberRefusal};
 ghost use Rattle.lg_entry_lines.specs.Lines.{IsReadLine, IsReadValue, IsFaultOf, Found};
-ghost use Rattle.lg_entry_lines.specs.Records.{IsEntry};
+ghost use Rattle.lg_types.specs.Records.{IsEntry};
 
 use lg_codec::{CodecStop, entry_of_json};
 use lg_json::{Json, JsonFault, read};

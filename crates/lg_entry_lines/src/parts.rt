@@ -2,7 +2,7 @@
 
 ghost use Rattle.std.specs.List.{AllByRecursion};
 ghost use Rattle.lg_time.specs.Moment.{IsInMoments};
-ghost use Rattle.lg_entry_lines.specs.Records.{IsPosting, IsTextPair, IsMeta, IsAccountPair, IsAccountMeta, IsReferenceOf, IsTransaction, IsTarget, IsBody, IsHash, IsMarkOf, IsMark, IsEntry, BodyHasMoments, HasMoments};
+ghost use Rattle.lg_types.specs.Records.{IsPosting, IsTextPair, IsMeta, IsAccountPair, IsAccountMeta, IsReferenceOf, IsTransaction, IsTarget, IsBody, IsHash, IsMarkOf, IsMark, IsEntry, BodyHasMoments, HasMoments};
 
 use lg_types::{
     AccountMeta, Address, Entry, EntryBody, KeyMark, Meta, Posting, Reference, Target, Text,

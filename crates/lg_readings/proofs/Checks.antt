@@ -1,7 +1,7 @@
--- Entries that the bytes of an import come to are an importable log.
+-- Entries that the bytes of an import come to are a faultless log.
 use Rattle.std.proofs.Common.{sym}
-use Rattle.lg_views.proofs.Imported.{checks_importable}
-use Rattle.lg_readings.specs.ReadingLaws.{CheckedIsImportable}
+use Rattle.lg_views.proofs.Imported.{checks_faultless}
+use Rattle.lg_readings.specs.ReadingLaws.{CheckedIsFaultless}
 
-pub checked_is_importable : CheckedIsImportable
-checked_is_importable recompute bytes g h = checks_importable recompute h.lines g (sym h.checked)
+pub checked_is_faultless : CheckedIsFaultless
+checked_is_faultless recompute bytes g h = checks_faultless recompute h.lines g (sym h.checked)

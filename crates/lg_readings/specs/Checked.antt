@@ -1,17 +1,19 @@
 -- What the bytes of an import come to: its lines, cut at newlines, each read as an entry, and then checked one after the other.
-use Rattle.std.specs.Prelude.{◌≡◌, ◌⊎◌, ℕ, ◌==◌, Bool, List, Ok, Err}
+use Rattle.std.specs.Prelude.{◌≡◌, ◌⊎◌, ℕ, ◌==◌, Bool, false, List, Ok, Err}
 use Rattle.std.specs.List.{filter, enumerate_from, slice_split, AllZip}
 use Rattle.form_urlencoded.specs.Form.{is_nonempty}
 use Rattle.lg_json.specs.Tree.{Tree}
 use Rattle.lg_json.specs.Grammar.{IsJson, Fits}
 use Rattle.lg_types.specs.declared.calls.Batch.{Batch}
+use Rattle.lg_types.specs.declared.calls.Batch.TheVariants.{Ready}
+use Rattle.lg_types.specs.declared.records.Entry.{Entry}
 use Rattle.lg_types.specs.declared.refusals.ImportCause.TheVariants as cause
 use Rattle.lg_types.specs.declared.refusals.Refusal.{Refusal}
 use Rattle.lg_types.specs.declared.refusals.Refusal.TheVariants.{Member}
 use Rattle.lg_readings.specs.declared.readings.ReadEntry.{ReadEntry}
 use Rattle.lg_readings.specs.Answers.{Answer}
 use Rattle.lg_readings.specs.EntryLines.{LineOf}
-use Rattle.lg_views.specs.Import.{ReadLine, Read, Unread, NumberedLine, checked_lines}
+use Rattle.lg_views.specs.Import.{ReadLine, Read, Unread, NumberedLine, checked_lines, export}
 
 abbrev pub is_newline : ℕ → Bool
 is_newline b = b == 10
@@ -51,3 +53,7 @@ pub record IsChecked (recompute : Bool) (bytes : List ℕ) (batch : Batch) : Typ
   pub lines : List NumberedLine
   pub read : AllZip (IsNumberedLine recompute) (numbered_lines bytes) lines
   pub checked : batch ≡ checked_lines recompute lines
+
+-- the log's export, read and checked as bytes, comes to the log
+pub record IsImportable (g : List Entry) : Type 0 where
+  pub comes : IsChecked false (export g) (Ready g)

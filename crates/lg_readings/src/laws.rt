@@ -1,6 +1,6 @@
 //! Laws of what is read. Each function's contract is a law; there is nothing to run.
 
-ghost use Rattle.lg_readings.specs.ReadingLaws.{ScriptsInOrder, CheckedIsImportable};
+ghost use Rattle.lg_readings.specs.ReadingLaws.{ScriptsInOrder, CheckedIsFaultless};
 
 /// The lines of a script have callers below 64 and phases below 1,000,000; their numbers rise, and their phases never fall.
 #[tactic(auto, using(crate::proofs::Scripts::scripts_in_order))]
@@ -8,7 +8,7 @@ pub fn scripts_in_order()
     ensures { ScriptsInOrder }
 {}
 
-/// Entries that the bytes of an import come to are an importable log.
-pub fn checked_is_importable()
-    ensures { CheckedIsImportable }
+/// Entries that the bytes of an import come to are a faultless log.
+pub fn checked_is_faultless()
+    ensures { CheckedIsFaultless }
 {}

@@ -5,3 +5,4 @@ pub mod Shares
 pub mod MoveSums
 pub mod StripeKnows
 pub mod Limits
+pub mod Digests

@@ -2,6 +2,7 @@ pub mod CallPartTexts
 pub mod CallTexts
 pub mod Chain
 pub mod Changes
+pub mod GoodCalls
 pub mod EntryTexts
 pub mod Known
 pub mod Lists
@@ -12,6 +13,7 @@ pub mod Moves
 pub mod Parts
 pub mod PartTexts
 pub mod RecordPartTexts
+pub mod Records
 pub mod Stripes
 pub mod Tally
 pub mod Trial

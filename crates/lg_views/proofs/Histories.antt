@@ -1,21 +1,25 @@
--- Every log of a legal history is importable, and a history of one thread is legal.
+-- Every log of a legal history is faultless, and a history of one thread is legal.
 use Rattle.std.proofs.Common.{◌≡◌, ◌⊎◌, inl, inr, ℕ, zero, suc, ◌+◌, ◌-◌, ◌<◌, ◌≤◌, Bool, true, false, List, [], ◌∷◌, ◌++◌, length, take, drop, refl, sym, ap, subst, ◌∙◌, arith}
 use Rattle.std.specs.Prelude.{nat_le, nat_lt, if◌then◌else◌}
-use Rattle.std.specs.List.{AllZip}
+use Rattle.std.specs.List.{AllByRecursion, AllZip}
 use Rattle.std.proofs.Math.Seq.{take-append-add, take-length}
 use Rattle.std.proofs.lemmas.List.{take-append-drop, length-take-le, append-nil}
 use Rattle.std.proofs.lemmas.Bool.Decides.{nat_tests}
 use Rattle.lg_types.specs.declared.records.Event.{Event}
 use Rattle.lg_types.specs.Lists.{Each, ZipPairs}
 use Rattle.lg_types.specs.Log.{log, first_events}
+use Rattle.lg_types.specs.Records.{IsEntry}
 use Rattle.lg_types.proofs.Eachs.{each-map}
 use Rattle.lg_views.specs.declared.answers.Answer.{Answer}
 use Rattle.lg_views.specs.declared.lines.ScriptLine.{ScriptLine}
 use Rattle.lg_views.specs.Import.{FollowsFrom}
 use Rattle.lg_views.specs.History.{Answered, Legal, AloneFrom, end_of, owned, owners, has_place, InTurn, AfterPhase, Apart, IsAnswerTo}
-use Rattle.lg_views.specs.Laws.{IsGoodCall, IsGoodLine, AllImportable, LegalLogsImportable, AloneIsLegal}
+use Rattle.lg_views.specs.Laws.{IsFaultlessLine, IsGoodLine, AllFaultless, AllWellMade, LegalLogsFaultless, LegalLogsWellMade, AloneIsLegal}
+use Rattle.lg_views.specs.Outcome.{outcome}
 use Rattle.lg_views.proofs.Follows.{follows-front}
+use Rattle.lg_views.proofs.MadeLogs.{outcomes_keep_entries}
 use Rattle.lg_views.proofs.Outcomes.{log-append, outcomes_keep_logs}
+use Rattle.lg_views.proofs.WellMade.{all-front}
 
 -- a list taken in two steps
 pub take-add : {A : Type 0} (n m : ℕ) (xs : List A) → n ≤ length xs → take (n + m) xs ≡ take n xs ++ take m (drop n xs)
@@ -25,10 +29,6 @@ take-add n m xs h =
     sym (ap (take (n + m)) whole)
     ∙ ap (λ k. take (k + m) (take n xs ++ drop n xs)) (sym long)
     ∙ take-append-add (take n xs) (drop n xs) m
-
--- what holds of the logs of a list holds of those of its front
-importable-front : (xs rest : List Event) → AllImportable (xs ++ rest) → AllImportable xs
-importable-front xs rest h = record { each = λ ledger. record { follows = follows-front [] (log xs ledger) (log rest ledger) (subst (FollowsFrom []) (log-append xs rest ledger) (h.each ledger).follows) } }
 
 -- a place lies in a range, or the range doesn't own it
 in_range : (f m p : ℕ) → ((f ≤ p) × (p < f + m)) ⊎ (has_place f m p ≡ 0)
@@ -42,79 +42,101 @@ in_range f m p = by_first (nat_le f p) refl
     by_first true h = by_second (nat_lt p (f + m)) (grind (arith, nat_tests, h)) refl
     by_first false h = inr refl
 
--- the answer that owns a place, with its line
-record Owner (events : List Event) (place : ℕ) : Type 0 where
-  line : ScriptLine
-  answer : Answer
-  good : IsGoodCall line.call
-  answered : Answered events line answer
-  low : answer.front ≤ place
-  high : place < end_of answer
+-- what holds of the first event, goes over to fronts and is kept by the outcome of every good line, holds of each legal history
+module _ (P : List Event → Type 0) (IsGood : ScriptLine → Type 0) (most : ℕ)
+    (front : (xs rest : List Event) → P (xs ++ rest) → P xs) (first : P first_events)
+    (next : (xs : List Event) (l : ScriptLine) → IsGood l → length (xs ++ (outcome xs l.call l.moment).1) ≤ most → P xs → P (xs ++ (outcome xs l.call l.moment).1)) where
+  -- the answer that owns a place, with its line
+  record Owner (events : List Event) (place : ℕ) : Type 0 where
+    line : ScriptLine
+    answer : Answer
+    good : IsGood line
+    answered : Answered events line answer
+    low : answer.front ≤ place
+    high : place < end_of answer
 
-owner_of : (events : List Event) (place : ℕ) (lines : List ScriptLine) (answers : List Answer) → Each IsGoodLine lines → AllZip (Answered events) lines answers → owners place answers ≡ 1 → Owner events place
-owner_of events place [] [] good h o = absurd (omega (arith, o))
-owner_of events place [] (a ∷ answers) good h o = absurd h
-owner_of events place (l ∷ lines) [] good h o = absurd h
-owner_of events place (l ∷ lines) (a ∷ answers) good h o = by_range (in_range a.front a.events place) (owner_of events place lines answers good.1 h.1)
-  where
-    by_range : ((a.front ≤ place) × (place < end_of a)) ⊎ (has_place a.front a.events place ≡ 0) → (owners place answers ≡ 1 → Owner events place) → Owner events place
-    by_range (inl r) later = record { line = l; answer = a; good = good.0; answered = h.0; low = r.0; high = r.1 }
-    by_range (inr none) later = later (omega (arith, o, none))
+  owner_of : (events : List Event) (place : ℕ) (lines : List ScriptLine) (answers : List Answer) → Each IsGood lines → AllZip (Answered events) lines answers → owners place answers ≡ 1 → Owner events place
+  owner_of events place [] [] good h o = absurd (omega (arith, o))
+  owner_of events place [] (a ∷ answers) good h o = absurd h
+  owner_of events place (l ∷ lines) [] good h o = absurd h
+  owner_of events place (l ∷ lines) (a ∷ answers) good h o = by_range (in_range a.front a.events place) (owner_of events place lines answers good.1 h.1)
+    where
+      by_range : ((a.front ≤ place) × (place < end_of a)) ⊎ (has_place a.front a.events place ≡ 0) → (owners place answers ≡ 1 → Owner events place) → Owner events place
+      by_range (inl r) later = record { line = l; answer = a; good = good.0; answered = h.0; low = r.0; high = r.1 }
+      by_range (inr none) later = later (omega (arith, o, none))
 
--- the events of an answer that owns a place are those of its call's outcome
-grown : (events : List Event) (w : ℕ) (o : Owner events w) → AllImportable (take o.answer.front events) → AllImportable (take (end_of o.answer) events)
-grown events w o h =
-    let a : Answer = o.answer in
-    let before : a.front ≤ length events = omega (arith, o.answered.within) in
-    let whole : take (end_of a) events ≡ take a.front events ++ owned events a = take-add a.front a.events events before in
-    subst AllImportable (sym whole) (by_reply o.answered.reply)
-  where
-    by_reply : IsAnswerTo (take o.answer.front events) o.line.call o.line.moment o.answer.reply (owned events o.answer) → AllImportable (take o.answer.front events ++ owned events o.answer)
-    by_reply (inl e) = subst (λ own. AllImportable (take o.answer.front events ++ own)) (sym (ap (λ pair. pair.1) e)) (outcomes_keep_logs (take o.answer.front events) o.line.call o.line.moment o.good h)
-    by_reply (inr e) = outcomes_keep_nothing e.1
-      where
-        outcomes_keep_nothing : owned events o.answer ≡ [] → AllImportable (take o.answer.front events ++ owned events o.answer)
-        outcomes_keep_nothing none = subst AllImportable (sym (ap (λ own. take o.answer.front events ++ own) none ∙ append-nil (take o.answer.front events))) h
+  -- the events of an answer that owns a place are those of its call's outcome
+  grown : (events : List Event) (w : ℕ) (o : Owner events w) → length events ≤ most → P (take o.answer.front events) → P (take (end_of o.answer) events)
+  grown events w o few h =
+      let a : Answer = o.answer in
+      let within : end_of a ≤ length events = o.answered.within in
+      let before : a.front ≤ length events = omega (arith, within) in
+      let whole : take (end_of a) events ≡ take a.front events ++ owned events a = take-add a.front a.events events before in
+      let long : length (take (end_of a) events) ≡ end_of a = length-take-le (end_of a) events within in
+      let short : length (take a.front events ++ owned events a) ≤ most = subst (λ l. length l ≤ most) whole (omega (arith, long, within, few)) in
+      subst P (sym whole) (by_reply o.answered.reply short)
+    where
+      by_reply : IsAnswerTo (take o.answer.front events) o.line.call o.line.moment o.answer.reply (owned events o.answer) → length (take o.answer.front events ++ owned events o.answer) ≤ most
+          → P (take o.answer.front events ++ owned events o.answer)
+      by_reply (inl e) short =
+          let same : owned events o.answer ≡ (outcome (take o.answer.front events) o.line.call o.line.moment).1 = ap (λ pair. pair.1) e in
+          subst (λ own. P (take o.answer.front events ++ own)) (sym same) (next (take o.answer.front events) o.line o.good (subst (λ own. length (take o.answer.front events ++ own) ≤ most) same short) h)
+      by_reply (inr e) short = subst P (sym (ap (λ own. take o.answer.front events ++ own) e.1 ∙ append-nil (take o.answer.front events))) h
+
+  -- a front of the list, by the fronts that are shorter
+  one_more : (events : List Event) (lines : List ScriptLine) (answers : List Answer) → Each IsGood lines → Legal events lines answers → length events ≤ most → (n : ℕ) → 1 ≤ n → n < length events
+      → ((m : ℕ) → m ≤ n → P (take m events)) → P (take (n + 1) events)
+  one_more events lines answers good legal few n low high before =
+      let o : Owner events n = owner_of events n lines answers good legal.each (legal.owned_once n low high) in
+      let end : P (take (end_of o.answer) events) = grown events n o few (before o.answer.front o.low) in
+      let more : ℕ = end_of o.answer - (n + 1) in
+      let same : end_of o.answer ≡ n + 1 + more = omega (arith, o.high) in
+      front (take (n + 1) events) (take more (drop (n + 1) events)) (subst P (ap (λ k. take k events) same ∙ take-add (n + 1) more events (omega (arith, high))) end)
+
+  sized : (events : List Event) (lines : List ScriptLine) (answers : List Answer) → Each IsGood lines → Legal events lines answers → length events ≤ most → (n m : ℕ) → m ≤ n + 1 → n + 1 ≤ length events
+      → ((k : ℕ) → k ≤ n → P (take k events)) → P (take m events)
+  sized events lines answers good legal few n m h within before = by_size (nat_le m n) refl
+    where
+      one : m ≡ 1 → P (take m events)
+      one z = subst P (sym (ap (take m) legal.first.1 ∙ ap (λ k. take k (first_events ++ legal.first.0)) z)) first
+
+      last : m ≡ n + 1 → (b : Bool) → nat_le 1 n ≡ b → P (take m events)
+      last e true t = subst (λ k. P (take k events)) (sym e) (one_more events lines answers good legal few n (grind (arith, nat_tests, t)) (omega (arith, within)) before)
+      last e false t = one (grind (arith, nat_tests, t, e))
+
+      by_size : (b : Bool) → nat_le m n ≡ b → P (take m events)
+      by_size true t = before m (grind (arith, nat_tests, t))
+      by_size false t = last (grind (arith, nat_tests, t, h)) (nat_le 1 n) refl
+
+  fronts : (events : List Event) (lines : List ScriptLine) (answers : List Answer) → Each IsGood lines → Legal events lines answers → length events ≤ most → (n m : ℕ) → m ≤ n → n ≤ length events → P (take m events)
+  fronts events lines answers good legal few zero m h within = subst (λ k. P (take k events)) (let e : 0 ≡ m = omega (arith, h) in e) (front [] first_events first)
+  fronts events lines answers good legal few (suc n) m h within =
+      sized events lines answers good legal few n m (omega (arith, h)) (omega (arith, within)) (λ k le. fronts events lines answers good legal few n k le (omega (arith, within)))
+
+  pub legal-holds : (events : List Event) (lines : List ScriptLine) (answers : List Answer) → Each IsGood lines → Legal events lines answers → length events ≤ most → P events
+  legal-holds events lines answers good legal few = subst P (take-length events) (fronts events lines answers good legal few (length events) (length events) (omega arith) (omega arith))
+
+-- what holds of the logs of a list holds of those of its front
+faultless-front : (xs rest : List Event) → AllFaultless (xs ++ rest) → AllFaultless xs
+faultless-front xs rest h = record { each = λ ledger. record { follows = follows-front [] (log xs ledger) (log rest ledger) (subst (FollowsFrom []) (log-append xs rest ledger) (h.each ledger).follows) } }
+
+made-front : (xs rest : List Event) → AllWellMade (xs ++ rest) → AllWellMade xs
+made-front xs rest h = record { each = λ ledger. all-front IsEntry (log xs ledger) (log rest ledger) (subst (AllByRecursion IsEntry) (log-append xs rest ledger) (h.each ledger)) }
 
 -- the first event makes a ledger, so no log has entries
-first-importable : AllImportable first_events
-first-importable = record { each = λ ledger. record { follows = tt } }
+first-faultless : AllFaultless first_events
+first-faultless = record { each = λ ledger. record { follows = tt } }
 
-none-importable : AllImportable []
-none-importable = record { each = λ ledger. record { follows = tt } }
+first-made : AllWellMade first_events
+first-made = record { each = λ ledger. tt }
 
--- a front of the list, by the fronts that are shorter
-one_more : (events : List Event) (lines : List ScriptLine) (answers : List Answer) → Each IsGoodLine lines → Legal events lines answers → (n : ℕ) → 1 ≤ n → n < length events
-    → ((m : ℕ) → m ≤ n → AllImportable (take m events)) → AllImportable (take (n + 1) events)
-one_more events lines answers good legal n low high before =
-    let o : Owner events n = owner_of events n lines answers good legal.each (legal.owned_once n low high) in
-    let end : AllImportable (take (end_of o.answer) events) = grown events n o (before o.answer.front o.low) in
-    let more : ℕ = end_of o.answer - (n + 1) in
-    let same : end_of o.answer ≡ n + 1 + more = omega (arith, o.high) in
-    importable-front (take (n + 1) events) (take more (drop (n + 1) events)) (subst AllImportable (ap (λ k. take k events) same ∙ take-add (n + 1) more events (omega (arith, high))) end)
+pub legal_logs_faultless : LegalLogsFaultless
+legal_logs_faultless events lines answers good legal =
+    legal-holds AllFaultless IsFaultlessLine (length events) faultless-front first-faultless (λ xs l ok few h. outcomes_keep_logs xs l.call l.moment ok h) events lines answers good legal (omega arith)
 
-sized : (events : List Event) (lines : List ScriptLine) (answers : List Answer) → Each IsGoodLine lines → Legal events lines answers → (n m : ℕ) → m ≤ n + 1 → n + 1 ≤ length events
-    → ((k : ℕ) → k ≤ n → AllImportable (take k events)) → AllImportable (take m events)
-sized events lines answers good legal n m h within before = by_size (nat_le m n) refl
-  where
-    one : m ≡ 1 → AllImportable (take m events)
-    one z = subst AllImportable (sym (ap (take m) legal.first.1 ∙ ap (λ k. take k (first_events ++ legal.first.0)) z)) first-importable
-
-    last : m ≡ n + 1 → (b : Bool) → nat_le 1 n ≡ b → AllImportable (take m events)
-    last e true t = subst (λ k. AllImportable (take k events)) (sym e) (one_more events lines answers good legal n (grind (arith, nat_tests, t)) (omega (arith, within)) before)
-    last e false t = one (grind (arith, nat_tests, t, e))
-
-    by_size : (b : Bool) → nat_le m n ≡ b → AllImportable (take m events)
-    by_size true t = before m (grind (arith, nat_tests, t))
-    by_size false t = last (grind (arith, nat_tests, t, h)) (nat_le 1 n) refl
-
-fronts : (events : List Event) (lines : List ScriptLine) (answers : List Answer) → Each IsGoodLine lines → Legal events lines answers → (n m : ℕ) → m ≤ n → n ≤ length events → AllImportable (take m events)
-fronts events lines answers good legal zero m h within = subst (λ k. AllImportable (take k events)) (let e : 0 ≡ m = omega (arith, h) in e) none-importable
-fronts events lines answers good legal (suc n) m h within =
-    sized events lines answers good legal n m (omega (arith, h)) (omega (arith, within)) (λ k le. fronts events lines answers good legal n k le (omega (arith, within)))
-
-pub legal_logs_importable : LegalLogsImportable
-legal_logs_importable events lines answers good legal = subst AllImportable (take-length events) (fronts events lines answers good legal (length events) (length events) (omega arith) (omega arith))
+pub legal_logs_well_made : LegalLogsWellMade
+legal_logs_well_made events lines answers good legal room =
+    legal-holds AllWellMade IsGoodLine (length events) made-front first-made (λ xs l ok few h. outcomes_keep_entries xs l.call l.moment ok (omega (arith, few, room)) h) events lines answers good legal (omega arith)
 
 -- ---- one thread
 

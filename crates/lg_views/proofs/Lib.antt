@@ -12,3 +12,5 @@ pub mod TestAnswers
 pub mod Walks
 pub mod Within
 pub mod FirstViews
+pub mod WellMade
+pub mod MadeLogs

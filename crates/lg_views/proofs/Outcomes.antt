@@ -1,4 +1,4 @@
--- Every outcome keeps every log importable.
+-- Every outcome keeps every log faultless.
 use Rattle.std.proofs.Common.{◌≡◌, ℕ, ℤ, Bool, true, false, List, [], ◌∷◌, ◌++◌, map, Option, Some, None, refl, sym, ap, subst, ◌∙◌}
 use Rattle.std.specs.Prelude.{if◌then◌else◌}
 use Rattle.std.specs.List.{find}
@@ -22,7 +22,7 @@ use Rattle.lg_views.specs.Import.{FollowsFrom, import_answer}
 use Rattle.lg_views.specs.Writes.{written, write_answer}
 use Rattle.lg_views.specs.Bulk.{batched}
 use Rattle.lg_views.specs.Outcome.{Task, ToWrite, ToBulk, ToImport, ToRead, answer_on, on_ledger, no_ledger, in_ledger, made_ledger, make_answer, ledger_record, read_answer, is_named, outcome}
-use Rattle.lg_views.specs.Laws.{IsGoodBatch, IsGoodTask, IsGoodCall, AllImportable, OutcomesKeepLogs}
+use Rattle.lg_views.specs.Laws.{IsFaultlessBatch, IsFaultlessTask, IsFaultlessCall, AllFaultless, OutcomesKeepLogs}
 use Rattle.lg_views.proofs.TestAnswers.{bytes_same}
 use Rattle.lg_views.proofs.Follows.{follows-join}
 use Rattle.lg_views.proofs.Granted.{Fits, written-fits}
@@ -33,13 +33,13 @@ write-follows g (Refuses refusal) h = tt
 write-follows g (Finds e) h = tt
 write-follows g (Appends e) h = (h, tt)
 
-import-follows : (g : List Entry) (batch : Batch) → IsGoodBatch batch → FollowsFrom g (import_answer g batch).1
+import-follows : (g : List Entry) (batch : Batch) → IsFaultlessBatch batch → FollowsFrom g (import_answer g batch).1
 import-follows [] (Ready entries) good = good.follows
 import-follows [] (Bad line cause) good = tt
 import-follows (e ∷ g) batch good = tt
 
 -- what any task appends may follow the log
-pub answer-follows : (task : Task) (now : ℤ) (g : List Entry) → IsGoodTask task → FollowsFrom g (answer_on task now g).1
+pub answer-follows : (task : Task) (now : ℤ) (g : List Entry) → IsFaultlessTask task → FollowsFrom g (answer_on task now g).1
 answer-follows (ToWrite key write) now g good = write-follows g (written g key write now) (written-fits g key write now)
 answer-follows (ToBulk elements atomic go_on) now g good = bulk-fits g atomic (batched g 0 go_on now elements) (batched-fits g 0 go_on now elements)
 answer-follows (ToImport batch) now g good = import-follows g batch good
@@ -65,14 +65,14 @@ by_name : (events : List Event) (name ledger : List ℕ) (es : List Entry) (b : 
 by_name events name ledger es true h f = subst (λ l. FollowsFrom (log events l) es) (bytes_same name ledger h) f
 by_name events name ledger es false h f = tt
 
--- events that keep each log importable, after others
+-- events that keep each log faultless, after others
 abbrev pub Keeps : List Event → List Event → Type 0
 Keeps events more = (ledger : List ℕ) → FollowsFrom (log events ledger) (log more ledger)
 
 keeps-entries : (events : List Event) (name : List ℕ) (es : List Entry) → FollowsFrom (log events name) es → Keeps events (map (Logged name) es)
 keeps-entries events name es h ledger = subst (λ l. FollowsFrom (log events ledger) l) (sym (log-logged name ledger es)) (by_name events name ledger es (bytes_eq name ledger) refl h)
 
-keeps-in : (events : List Event) (ledger : List ℕ) (task : Task) (now : ℤ) → IsGoodTask task → Keeps events (in_ledger events ledger task now).1
+keeps-in : (events : List Event) (ledger : List ℕ) (task : Task) (now : ℤ) → IsFaultlessTask task → Keeps events (in_ledger events ledger task now).1
 keeps-in events ledger task now good = by_test (is_there events ledger)
   where
     by_test : (b : Bool) → Keeps events (if b then on_ledger ledger (answer_on task now (log events ledger)) else no_ledger ledger).1
@@ -102,7 +102,7 @@ keeps-read events ledger (read.Aggregate f p b) now = keeps-in events ledger (To
 keeps-read events ledger read.Stats now = keeps-in events ledger (ToRead read.Stats) now tt
 keeps-read events ledger read.Export now = keeps-in events ledger (ToRead read.Export) now tt
 
-pub outcome-keeps : (events : List Event) (c : Call) (now : ℤ) → IsGoodCall c → Keeps events (outcome events c now).1
+pub outcome-keeps : (events : List Event) (c : Call) (now : ℤ) → IsFaultlessCall c → Keeps events (outcome events c now).1
 unfolding outcome
 outcome-keeps events (call.Unreadable refusal) now good l = tt
 outcome-keeps events (call.MakeLedger ledger bucket metadata) now good l = keeps-made events (made_ledger ledger bucket metadata now) l
@@ -112,8 +112,8 @@ outcome-keeps events (call.Import ledger batch) now good l = keeps-in events led
 outcome-keeps events (call.Ledgers query) now good l = tt
 outcome-keeps events (call.Read ledger read) now good l = keeps-read events ledger read now l
 
-pub keeps-importable : (events more : List Event) → AllImportable events → Keeps events more → AllImportable (events ++ more)
-keeps-importable events more h k = record { each = λ ledger. record { follows = subst (FollowsFrom []) (sym (log-append events more ledger)) (follows-join [] (log events ledger) (log more ledger) (h.each ledger).follows (k ledger)) } }
+pub keeps-faultless : (events more : List Event) → AllFaultless events → Keeps events more → AllFaultless (events ++ more)
+keeps-faultless events more h k = record { each = λ ledger. record { follows = subst (FollowsFrom []) (sym (log-append events more ledger)) (follows-join [] (log events ledger) (log more ledger) (h.each ledger).follows (k ledger)) } }
 
 pub outcomes_keep_logs : OutcomesKeepLogs
-outcomes_keep_logs events c now good h = keeps-importable events (outcome events c now).1 h (outcome-keeps events c now good)
+outcomes_keep_logs events c now good h = keeps-faultless events (outcome events c now).1 h (outcome-keeps events c now good)

@@ -1,4 +1,4 @@
--- The lines of an importable log read back as the log, and what lines come to is importable.
+-- The lines of a faultless log read back as the log, and what lines come to is faultless.
 use Rattle.std.proofs.Common.{◌≡◌, ℕ, ◌+◌, Bool, true, false, not, ◌&&◌, List, [], ◌∷◌, ◌++◌, Option, Some, None, refl, sym, ap, ◌∙◌, append_assoc}
 use Rattle.std.specs.Option.{option_map}
 use Rattle.std.specs.Prelude.{nat_eq}
@@ -10,8 +10,8 @@ use Rattle.lg_types.specs.declared.calls.Batch.TheVariants.{Ready}
 use Rattle.lg_types.specs.declared.records.Entry.{Entry}
 use Rattle.lg_types.specs.Lists.{last_of}
 use Rattle.lg_types.specs.Chain.{own_hash, head, entry_hash}
-use Rattle.lg_views.specs.Import.{Reading, Read, causes, line_causes, line_fault, chained, read_on, first_form, bad_or, checked_from, FollowsFrom, is_other_form}
-use Rattle.lg_views.specs.Laws.{lines_from, ReadsBack}
+use Rattle.lg_views.specs.Import.{Reading, Read, causes, line_causes, line_fault, chained, read_on, first_form, ReadTo, unless_bad, read_line, read_lines_from, batch_of, FollowsFrom, is_other_form}
+use Rattle.lg_views.specs.Laws.{lines_from, ReadsBack, LinesSplit}
 use Rattle.lg_views.proofs.TestAnswers.{bytes_same, not_false, AllFalse, no_cause, all_false}
 
 last-or_snoc : {A : Type 0} (o : Option A) (xs : List A) (x : A) → last_or o (xs ++ x ∷ []) ≡ Some x
@@ -52,14 +52,19 @@ read-next g form e f h =
     forms None t = refl
     forms (Some n) t = ap Some (eqb-true n 2 (not_false (nat_eq n 2) t))
 
-pub read_from : (recompute : Bool) (n : ℕ) (g : List Entry) (form : Option ℕ) (es : List Entry) → is_other_form form 2 ≡ false → FollowsFrom g es → checked_from recompute (reading_of g form) (lines_from n es) ≡ Ready (g ++ es)
+pub read_from : (recompute : Bool) (n : ℕ) (g : List Entry) (form : Option ℕ) (es : List Entry) → is_other_form form 2 ≡ false → FollowsFrom g es → batch_of (read_lines_from recompute (ReadTo (reading_of g form)) (lines_from n es)) ≡ Ready (g ++ es)
 read_from recompute n g form [] f h = ap Ready (sym (append-nil g))
 read_from recompute n g form (e ∷ es) f h =
     let clear : AllFalse (causes g e) = all_false (causes g e) h.0 in
-    ap (bad_or n (checked_from recompute (read_on (reading_of g form) (Read 2 e)) (lines_from (n + 1) es))) (line-faultless recompute g form e f clear)
-    ∙ ap (λ r. checked_from recompute r (lines_from (n + 1) es)) (read-next g form e f clear)
+    ap (λ o. batch_of (read_lines_from recompute (unless_bad n (read_on (reading_of g form) (Read 2 e)) o) (lines_from (n + 1) es))) (line-faultless recompute g form e f clear)
+    ∙ ap (λ r. batch_of (read_lines_from recompute (ReadTo r) (lines_from (n + 1) es))) (read-next g form e f clear)
     ∙ read_from recompute (n + 1) (g ++ e ∷ []) (Some 2) es refl h.1
     ∙ ap Ready (append_assoc g (e ∷ []) es)
+
+-- a walk over lines, and then over those that follow
+pub lines_split : LinesSplit
+lines_split recompute s [] more = refl
+lines_split recompute s (l ∷ ls) more = lines_split recompute (read_line recompute s l) ls more
 
 pub reads_back : ReadsBack
 reads_back recompute g h = read_from recompute 1 [] None g refl h.follows

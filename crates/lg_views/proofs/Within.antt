@@ -1,4 +1,4 @@
--- In an importable log no input and no output passes the limit, at any date and in either order.
+-- In a faultless log no input and no output passes the limit, at any date and in either order.
 use Rattle.std.proofs.Common.{◌≡◌, ℤ, true, false, List, [], ◌∷◌, ◌++◌, Option, Some, None, refl, sym, subst, append_assoc, lit<}
 use Rattle.std.specs.Prelude.{is_some}
 use Rattle.std.specs.List.{flat_map}
@@ -11,7 +11,7 @@ use Rattle.lg_types.specs.Moves.{transaction_moves, body_transaction, moves}
 use Rattle.lg_types.specs.Trial.{limit_from, tried_moves}
 use Rattle.lg_types.proofs.Limits.{total-tried, within-tried, within-test}
 use Rattle.lg_types.proofs.MoveSums.{moves-snoc}
-use Rattle.lg_views.specs.Import.{causes, FollowsFrom, IsImportable, is_over_limit}
+use Rattle.lg_views.specs.Import.{causes, FollowsFrom, IsFaultless, is_over_limit}
 use Rattle.lg_views.specs.Laws.{VolumesWithinLimit}
 use Rattle.lg_views.proofs.TestAnswers.{all_false}
 
@@ -36,8 +36,8 @@ within-follows g (e ∷ es) h f =
 nothing-within : IsWithin []
 nothing-within = record { each = λ account asset. record { input = lit< tt; output = lit< tt } }
 
-pub importable-within : (g : List Entry) → IsImportable g → IsWithin (moves g)
-importable-within g h = within-follows [] g nothing-within h.follows
+pub faultless-within : (g : List Entry) → IsFaultless g → IsWithin (moves g)
+faultless-within g h = within-follows [] g nothing-within h.follows
 
 pub volumes_within_limit : VolumesWithinLimit
-volumes_within_limit g h test account asset = within-test (moves g) test account asset (importable-within g h)
+volumes_within_limit g h test account asset = within-test (moves g) test account asset (faultless-within g h)

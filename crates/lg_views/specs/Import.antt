@@ -100,7 +100,7 @@ FollowsFrom g [] = Unit {0}
 FollowsFrom g (e ∷ es) = (fault g e ≡ None) × FollowsFrom (g ++ e ∷ []) es
 
 -- a log that an import takes as it is
-pub record IsImportable (g : List Entry) : Type 0 where
+pub record IsFaultless (g : List Entry) : Type 0 where
   pub follows : FollowsFrom [] g
 
 -- ---- lines
@@ -157,17 +157,35 @@ abbrev pub read_on : Reading → ReadLine → Reading
 read_on r (Read form e) = record { entries = r.entries ++ chained r.entries e ∷ []; own = Some (own_line_hash r form e); form = first_form r.form form }
 read_on r (Unread cause) = r
 
-abbrev pub bad_or : ℕ → Batch → Option ImportCause → Batch
-bad_or number batch None = batch
-bad_or number batch (Some cause) = Bad number cause
+-- where a walk over lines stands: what was read so far, or the first bad line with its first cause
+pub data LinesRead : Type 0 where
+  ReadTo : Reading → LinesRead
+  BadAt : (number : ℕ) (cause : ImportCause) → LinesRead
 
-abbrev pub checked_from : Bool → Reading → List NumberedLine → Batch
-checked_from recompute r [] = Ready r.entries
-checked_from recompute r (l ∷ ls) = bad_or l.number (checked_from recompute (read_on r l.line) ls) (line_fault recompute r l.line)
+abbrev pub unless_bad : ℕ → Reading → Option ImportCause → LinesRead
+unless_bad number r None = ReadTo r
+unless_bad number r (Some cause) = BadAt number cause
+
+-- one line more; behind a bad line nothing is read
+abbrev pub read_line : Bool → LinesRead → NumberedLine → LinesRead
+read_line recompute (ReadTo r) l = unless_bad l.number (read_on r l.line) (line_fault recompute r l.line)
+read_line recompute (BadAt number cause) l = BadAt number cause
+
+-- the fold over lines, from where a walk stands
+abbrev pub read_lines_from : Bool → LinesRead → List NumberedLine → LinesRead
+read_lines_from recompute s [] = s
+read_lines_from recompute s (l ∷ ls) = read_lines_from recompute (read_line recompute s l) ls
+
+abbrev pub read_lines : Bool → List NumberedLine → LinesRead
+read_lines recompute ls = read_lines_from recompute (ReadTo first_reading) ls
+
+abbrev pub batch_of : LinesRead → Batch
+batch_of (ReadTo r) = Ready r.entries
+batch_of (BadAt number cause) = Bad number cause
 
 -- what lines come to: the entries, or the first bad line with its first cause
 abbrev pub checked_lines : Bool → List NumberedLine → Batch
-checked_lines recompute ls = checked_from recompute first_reading ls
+checked_lines recompute ls = batch_of (read_lines recompute ls)
 
 -- an import goes into a log without entries
 abbrev pub import_answer : List Entry → Batch → Reply × List Entry

@@ -76,6 +76,26 @@ outcome events (call.Import ledger batch) now = in_ledger events ledger (ToImpor
 outcome events (call.Ledgers query) now = (plain (ledgers_page events query), [])
 outcome events (call.Read ledger read) now = read_answer events ledger read now
 
--- two logs answer alike where every task has the same answer on both, at every moment
-abbrev pub AnswerAlike : List Entry → List Entry → Type 0
-AnswerAlike g h = (task : Task) (now : ℤ) → answer_on task now g ≡ answer_on task now h
+-- the call that asks a task of a ledger
+abbrev pub call_on : List ℕ → Task → Call
+call_on ledger (ToWrite key write) = call.Write ledger key write
+call_on ledger (ToBulk elements atomic go_on) = call.Bulk ledger elements atomic go_on
+call_on ledger (ToImport batch) = call.Import ledger batch
+call_on ledger (ToRead read) = call.Read ledger read
+
+-- every task but the reading of the ledger's own record: its bucket, its metadata and when it was made
+abbrev pub IsOfLog : Task → Type 0
+IsOfLog (ToRead read.Ledger) = ⊥
+IsOfLog task = Unit {0}
+
+-- one reply and one list of new entries, which are the outcomes on both ledgers, each under its ledger's name
+pub record OneAnswer (events : List Event) (ledger : List ℕ) (others : List Event) (copy : List ℕ) (task : Task) (now : ℤ) : Type 0 where
+  pub answer : Reply × List Entry
+  pub here : outcome events (call_on ledger task) now ≡ on_ledger ledger answer
+  pub there : outcome others (call_on copy task) now ≡ on_ledger copy answer
+
+-- two ledgers, each of its own list of events, answer alike: their logs are equal, and so are their answers to every write, list,
+-- import and read of the log, at every moment
+pub record AnswerAlike (events : List Event) (ledger : List ℕ) (others : List Event) (copy : List ℕ) : Type 0 where
+  pub logs : log events ledger ≡ log others copy
+  pub answers : (task : Task) (now : ℤ) → IsOfLog task → OneAnswer events ledger others copy task now

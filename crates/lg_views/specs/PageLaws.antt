@@ -5,7 +5,7 @@ use Rattle.lg_types.specs.declared.filters.After.TheVariants.{Address as Address
 use Rattle.lg_types.specs.declared.records.Entry.{Entry}
 use Rattle.lg_types.specs.declared.records.Event.{Event}
 use Rattle.lg_types.specs.Lists.{Pairs}
-use Rattle.lg_views.specs.Import.{IsImportable}
+use Rattle.lg_views.specs.Import.{IsFaultless}
 use Rattle.lg_views.specs.Pages.{after_place, next_place}
 use Rattle.lg_views.specs.Reads.{whole_accounts, whole_transactions, whole_entries, whole_volumes, whole_ledgers, is_after_name, is_after_transaction, is_after_entry, is_after_pair, is_after_ledger, transaction_place, entry_place, volume_place, ledger_place}
 
@@ -31,12 +31,12 @@ pub record IsInOrder {P A : Type 0} (is_after : P → A → Bool) (place : A →
 abbrev pub AccountPages : Type 0
 AccountPages = (g : List Entry) (q : Query) → 0 < q.page_size → walk is_after_name AddressPlace q.page_size (length (whole_accounts g q)) None (whole_accounts g q) ≡ whole_accounts g q
 
--- so do the pages of an importable log's entries and transactions
+-- so do the pages of a faultless log's entries and transactions
 abbrev pub EntryPages : Type 0
-EntryPages = (g : List Entry) (q : Query) → IsImportable g → 0 < q.page_size → walk is_after_entry entry_place q.page_size (length (whole_entries g q)) None (whole_entries g q) ≡ whole_entries g q
+EntryPages = (g : List Entry) (q : Query) → IsFaultless g → 0 < q.page_size → walk is_after_entry entry_place q.page_size (length (whole_entries g q)) None (whole_entries g q) ≡ whole_entries g q
 
 abbrev pub TransactionPages : Type 0
-TransactionPages = (g : List Entry) (q : Query) → IsImportable g → 0 < q.page_size → walk is_after_transaction transaction_place q.page_size (length (whole_transactions g q)) None (whole_transactions g q) ≡ whole_transactions g q
+TransactionPages = (g : List Entry) (q : Query) → IsFaultless g → 0 < q.page_size → walk is_after_transaction transaction_place q.page_size (length (whole_transactions g q)) None (whole_transactions g q) ≡ whole_transactions g q
 
 -- and those of volumes, and of ledgers
 abbrev pub VolumePages : Type 0

@@ -1,5 +1,5 @@
 use Rattle.std.proofs.Common.{drop}
-use Rattle.lg_entry_lines.specs.Records.{IsTextPair}
+use Rattle.lg_types.specs.Records.{IsTextPair}
 use Rattle.lg_entry_lines.proofs.Walks.{GoesOn}
 use Rattle.lg_entry_lines.proofs.parts.text_pairs_are.Given as goal
 

@@ -1,5 +1,0 @@
-use Rattle.lg_readings.proofs.Checks.{checked_is_importable}
-use Rattle.lg_readings.proofs.laws.checked_is_importable.Goals as goal
-
-pub returns : goal.returns
-returns c = checked_is_importable
