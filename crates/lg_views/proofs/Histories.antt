@@ -87,7 +87,7 @@ module _ (P : List Event → Type 0) (IsGood : ScriptLine → Type 0) (most : �
   one_more : (events : List Event) (lines : List ScriptLine) (answers : List Answer) → Each IsGood lines → Legal events lines answers → length events ≤ most → (n : ℕ) → 1 ≤ n → n < length events
       → ((m : ℕ) → m ≤ n → P (take m events)) → P (take (n + 1) events)
   one_more events lines answers good legal few n low high before =
-      let o : Owner events n = owner_of events n lines answers good legal.each (legal.owned_once n low high) in
+      let o : Owner events n = owner_of events n lines answers good legal.answered.each (legal.shared.owned_once n low high) in
       let end : P (take (end_of o.answer) events) = grown events n o few (before o.answer.front o.low) in
       let more : ℕ = end_of o.answer - (n + 1) in
       let same : end_of o.answer ≡ n + 1 + more = omega (arith, o.high) in
@@ -98,7 +98,7 @@ module _ (P : List Event → Type 0) (IsGood : ScriptLine → Type 0) (most : �
   sized events lines answers good legal few n m h within before = by_size (nat_le m n) refl
     where
       one : m ≡ 1 → P (take m events)
-      one z = subst P (sym (ap (take m) legal.first.1 ∙ ap (λ k. take k (first_events ++ legal.first.0)) z)) first
+      one z = subst P (sym (ap (take m) legal.answered.first.1 ∙ ap (λ k. take k (first_events ++ legal.answered.first.0)) z)) first
 
       last : m ≡ n + 1 → (b : Bool) → nat_le 1 n ≡ b → P (take m events)
       last e true t = subst (λ k. P (take k events)) (sym e) (one_more events lines answers good legal few n (grind (arith, nat_tests, t)) (omega (arith, within)) before)
@@ -229,10 +229,14 @@ alone-apart events n (l ∷ lines) (a ∷ answers) h =
 
 pub alone_is_legal : AloneIsLegal
 alone_is_legal events lines answers h = record {
-  first = h.first;
-  each = alone-answered events 1 lines answers (omega arith) h.from;
-  callers = alone-pairs InTurn (λ l a m b le same. le) events 1 lines answers h.from;
-  phases = alone-pairs AfterPhase (λ l a m b le less. le) events 1 lines answers h.from;
-  owned_once = owned-once events 1 lines answers h.from;
-  apart = alone-apart events 1 lines answers h.from;
+  answered = record {
+    first = h.first;
+    each = alone-answered events 1 lines answers (omega arith) h.from;
+    callers = alone-pairs InTurn (λ l a m b le same. le) events 1 lines answers h.from;
+  };
+  shared = record {
+    phases = alone-pairs AfterPhase (λ l a m b le less. le) events 1 lines answers h.from;
+    owned_once = owned-once events 1 lines answers h.from;
+    apart = alone-apart events 1 lines answers h.from;
+  };
 }

@@ -51,15 +51,23 @@ owners place (a ∷ answers) = has_place a.front a.events place + owners place a
 abbrev pub Apart : Answer → Answer → Type 0
 Apart a b = a.front < b.front → end_of a ≤ b.front
 
--- a legal history
-pub record Legal (events : List Event) (lines : List ScriptLine) (answers : List Answer) : Type 0 where
+-- what each caller is answered, whatever phases there are: the list begins as every one does, each answer is one of its line, and
+-- those of a caller come in turn
+pub record AnswersInTurn (events : List Event) (lines : List ScriptLine) (answers : List Answer) : Type 0 where
   pub first : IsPrefix first_events events
   pub each : AllZip (Answered events) lines answers
   pub callers : ZipPairs InTurn lines answers
+
+-- how the answers of all share the list: phase after phase, each place from 1 on owned exactly once, and none begun inside another
+pub record SharesEvents (events : List Event) (lines : List ScriptLine) (answers : List Answer) : Type 0 where
   pub phases : ZipPairs AfterPhase lines answers
-  -- each place from 1 on is owned exactly once
   pub owned_once : (place : ℕ) → 1 ≤ place → place < length events → owners place answers ≡ 1
   pub apart : Each (λ a. Each (Apart a) answers) answers
+
+-- a legal history
+pub record Legal (events : List Event) (lines : List ScriptLine) (answers : List Answer) : Type 0 where
+  pub answered : AnswersInTurn events lines answers
+  pub shared : SharesEvents events lines answers
 
 -- lines answered one after the other, from a number of events on, up to the end of the list
 abbrev pub AloneFrom : List Event → ℕ → List ScriptLine → List Answer → Type 0

@@ -10,13 +10,13 @@ use Rattle.lg_views.specs.declared.replies.Reply.{Reply}
 use Rattle.lg_views.specs.ReplyTexts.{status_of, body_text}
 
 -- a reply with the number of its line, its front and the number of its events
-abbrev pub line_text : ℕ → ℕ → ℕ → Reply → List ℕ
-line_text line front events reply =
+abbrev pub reply_line : ℕ → ℕ → ℕ → Reply → List ℕ
+reply_line line front events reply =
     concat (codes "{\"line\":" ∷ decimal line ∷ codes ",\"front\":" ∷ decimal front ∷ codes ",\"events\":" ∷ decimal events ∷ codes ",\"hit\":" ∷ truth_text reply.hit ∷ codes ",\"status\":" ∷ decimal (status_of reply.content) ∷ codes ",\"body\":" ∷ body_text reply.content ∷ codes "}\n" ∷ [])
 
 -- the line of an answer
 abbrev pub answer_line : ScriptLine × Answer → List ℕ
-answer_line p = line_text p.0.line p.1.front p.1.events p.1.reply
+answer_line p = reply_line p.0.line p.1.front p.1.events p.1.reply
 
 -- the line of an event at its place
 abbrev pub event_line : ℕ × Event → List ℕ
