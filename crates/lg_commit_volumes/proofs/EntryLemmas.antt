@@ -10,7 +10,8 @@ use Rattle.lg_types.specs.Trial.{tried_moves}
 use Rattle.lg_types.proofs.Limits.{total-postings}
 use Rattle.lg_commit_volumes.specs.declared.before.PairBefore.{PairBefore}
 use Rattle.lg_commit_volumes.specs.Before.{precedes, with_moves, AreWithinLimit}
-use Rattle.lg_commit_volumes.proofs.SumLemmas.{nothing, nothing_last, second_within, same_before}
+use Rattle.lg_commit_volumes.specs.Maps.{nothing}
+use Rattle.lg_commit_volumes.proofs.SumLemmas.{nothing_last, second_within, same_before}
 use Rattle.lg_commit_volumes.proofs.TestLemmas.{is_earlier, earlier-moves}
 
 module _ (t : Transaction) (account asset : List ℕ) (before : PairBefore) (e : Entry) where

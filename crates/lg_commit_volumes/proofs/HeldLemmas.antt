@@ -20,7 +20,7 @@ some_of_none (Some v) e h = cc
 is_there : {V : Type 0} (o : Option V) (v : V) → o ≡ Some v → IsSome o
 is_there o v h = ap is_some h
 
-get_nothing : (account asset : List ℕ) → get (unwrap_or (get (empty {V = AssetMap}) account) empty) asset ≡ None
+pub get_nothing : (account asset : List ℕ) → get (unwrap_or (get (empty {V = AssetMap}) account) empty) asset ≡ None
 get_nothing account asset = ap (λ o. get (unwrap_or o empty) asset) (get-empty AssetMap account) ∙ get-empty Volumes asset
 
 -- where the account isn't there, no asset of it is
@@ -64,7 +64,7 @@ assets_with : (b c : Bool) (assets : AssetMap) (asset q : List ℕ) (v : Volumes
 assets_with true c assets asset q v o same is = get-change assets asset v q ∙ ap₂ (λ d m. cond d (Some v) (get m q)) is (same refl)
 assets_with false c assets asset q v o same is = refl
 
-pair_in-put : (m : AccountMap) (account asset : List ℕ) (v : Volumes) (qa qs : List ℕ) → pair_in (put_pair m account asset v) qa qs ≡ cond (bytes_eq account qa && bytes_eq asset qs) (Some v) (pair_in m qa qs)
+pub pair_in-put : (m : AccountMap) (account asset : List ℕ) (v : Volumes) (qa qs : List ℕ) → pair_in (put_pair m account asset v) qa qs ≡ cond (bytes_eq account qa && bytes_eq asset qs) (Some v) (pair_in m qa qs)
 pair_in-put m account asset v qa qs =
     ap (λ o. get (unwrap_or o empty) qs) (get-change m account (insert (unwrap_or (get m account) empty) asset v) qa)
     ∙ assets_with (bytes_eq account qa) (bytes_eq asset qs) (unwrap_or (get m account) empty) asset qs v (get m qa) (λ e. ap (λ name. unwrap_or (get m name) empty) (bytes_same account qa e)) refl

@@ -7,3 +7,4 @@ pub mod AroundLemmas
 pub mod LawLemmas
 pub mod NumberLemmas
 pub mod HeldLemmas
+pub mod TotalLemmas

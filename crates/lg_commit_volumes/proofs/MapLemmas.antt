@@ -1,12 +1,10 @@
 -- The four maps, as they grow pair by pair.
-use Rattle.std.proofs.Common.{◌≡◌, ℕ, ◌+◌, ◌<◌, ◌≤◌, ℤ, Bool, true, false, cond, List, [], ◌∷◌, map, length, drop, get_or, Option, Some, None, Result, Ok, Err, OnOk, refl, sym, ap, ap₂, ◌∙◌}
+use Rattle.std.proofs.Common.{◌≡◌, ℕ, ◌+◌, ◌<◌, ◌≤◌, ℤ, List, [], ◌∷◌, map, length, drop, get_or, Result, Ok, Err, OnOk, refl, sym, ap, ◌∙◌}
 use Rattle.std.specs.Prelude.{unwrap_or}
 use Rattle.std.specs.List.{flat_map}
-use Rattle.std.specs.Ordering.{eq_by_cmp}
 use Rattle.std.proofs.lemmas.List.{drop_all}
 use Rattle.lg_base.specs.declared.amounts.Volumes.{Volumes}
-use Rattle.lg_containers.specs.NameOrder.{name_order}
-use Rattle.lg_containers.specs.NameTable.{NameTable, get, insert, remove, empty, get-insert, get-remove, same_table}
+use Rattle.lg_containers.specs.NameTable.{get, insert, empty}
 use Rattle.lg_types.specs.declared.records.Posting.{Posting}
 use Rattle.lg_types.specs.Lists.{Each}
 use Rattle.lg_types.specs.Moves.{posting_moves}
@@ -16,30 +14,11 @@ use Rattle.lg_commit_volumes.specs.declared.pairs.PairVolumes.{PairVolumes}
 use Rattle.lg_commit_volumes.specs.Maps.{put_both, put_all}
 use Rattle.lg_commit_volumes.proofs.SumLemmas.{left_here}
 
--- a name that was taken out and put back with a value has that value
-either_way : {V : Type 0} (b : Bool) (v : V) (o : Option V) → cond b (Some v) (cond b None o) ≡ cond b (Some v) o
-either_way true v o = refl
-either_way false v o = refl
-
-pub put_back : {V : Type 0} (m : NameTable V) (name : List ℕ) (v : V) → insert (remove m name) name v ≡ insert m name v
-put_back m name v = same_table _ _ (λ q.
-    get-insert (remove m name) name v q
-    ∙ ap (cond (eq_by_cmp name_order q name) (Some v)) (get-remove m name q)
-    ∙ either_way (eq_by_cmp name_order q name) v (get m q)
-    ∙ sym (get-insert m name v q))
-
-pub put_pair_back : (m taken new : AccountMap) (account asset : List ℕ) (old assets : AssetMap) (v : Volumes)
-    → old ≡ unwrap_or (get m account) empty → taken ≡ remove m account → assets ≡ insert old asset v → new ≡ insert taken account assets → new ≡ put_pair m account asset v
-put_pair_back m taken new account asset old assets v is rest made put =
-    put
-    ∙ ap₂ (λ u x. insert u account x) rest (made ∙ ap (λ x. insert x asset v) is)
-    ∙ put_back m account (insert (unwrap_or (get m account) empty) asset v)
-
-pub put_pair_ok : {E : Type 0} (r : Result (Unit {0}) E) (m taken new : AccountMap) (account name asset other : List ℕ) (old assets : AssetMap) (v : Volumes)
-    → old ≡ unwrap_or (get m account) empty → taken ≡ remove m account → other ≡ asset → name ≡ account → assets ≡ insert old other v → OnOk r (new ≡ insert taken name assets) → OnOk r (new ≡ put_pair m account asset v)
-put_pair_ok (Ok done) m taken new account name asset other old assets v is rest same own made put =
-    put_pair_back m taken new account asset old assets v is rest (made ∙ ap (λ a. insert old a v) same) (put ∙ ap (λ n. insert taken n assets) own)
-put_pair_ok (Err e) m taken new account name asset other old assets v is rest same own made put = tt
+-- an account that is opened, and the map that its assets become
+pub put_opened : {E : Type 0} (r : Result (Unit {0}) E) (m : AccountMap) (account asset : List ℕ) (fresh assets new : AssetMap) (v : Volumes)
+    → fresh ≡ empty → assets ≡ unwrap_or (get m account) fresh → OnOk r (new ≡ insert assets asset v) → OnOk r (insert m account new ≡ put_pair m account asset v)
+put_opened (Ok done) m account asset fresh assets new v none is put = ap (insert m account) (put ∙ ap (λ x. insert x asset v) (is ∙ ap (unwrap_or (get m account)) none))
+put_opened (Err e) m account asset fresh assets new v none is put = tt
 
 -- ---- posting by posting
 

@@ -17,9 +17,7 @@ use Rattle.lg_types.proofs.MoveSums.{same_volumes, tally-append, volumes-append}
 use Rattle.lg_types.proofs.Limits.{total-posting}
 use Rattle.lg_commit_volumes.specs.declared.before.PairBefore.{PairBefore}
 use Rattle.lg_commit_volumes.specs.Before.{precedes, before_of, with_moves, AreWithinLimit}
-
-abbrev pub nothing : Volumes
-nothing = record { input = 0; output = 0 }
+use Rattle.lg_commit_volumes.specs.Maps.{nothing}
 
 pub nothing_first : (v : Volumes) → sum_of nothing v ≡ v
 nothing_first v = same_volumes _ _ _ _ (omega arith) (omega arith)

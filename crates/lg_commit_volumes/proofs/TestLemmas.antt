@@ -20,7 +20,7 @@ use Rattle.lg_types.proofs.Limits.{total-postings}
 use Rattle.lg_types.proofs.MoveSums.{same_volumes}
 use Rattle.lg_commit_volumes.specs.Before.{precedes}
 use Rattle.lg_commit_volumes.specs.Lent.{HasSmallerId}
-use Rattle.lg_commit_volumes.proofs.SumLemmas.{nothing}
+use Rattle.lg_commit_volumes.specs.Maps.{nothing}
 
 -- ---- tests that agree
 

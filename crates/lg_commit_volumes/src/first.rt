@@ -9,10 +9,11 @@ ghost use Rattle.lg_book.specs.FirstVolumes.{entry_volumes};
 ghost use Rattle.lg_commit_volumes.specs.Lent.{IsLent, AreLent, AreParts, IsPairWithin, ArePairsWithin, HasSmallerIds};
 ghost use Rattle.lg_commit_volumes.specs.Lent.{moves_before};
 ghost use Rattle.lg_commit_volumes.specs.Before.{before_of, around};
-ghost use Rattle.lg_commit_volumes.specs.Maps.{HasOnly, put_four, put_both};
+ghost use Rattle.lg_commit_volumes.specs.Maps.{AreTotals, HasOnly, put_four, put_both};
 
 use crate::maps::VolumeMaps;
 use crate::pairs::pair_volumes;
+use crate::totals::{OwnMoves, posting_totals};
 use lg_base::NoMemory;
 use lg_book::FirstVolumes;
 use lg_shard::Shards;
@@ -52,17 +53,14 @@ fn filled_maps<S: Shards>(
     requires limit { ArePairsWithin (S.lent shards.now) ledger.now earlier.now transaction.now }
     ensures { IfOk result (λ volumes. (events : List Event) (e : Entry) → body_transaction e.body ≡ Some transaction.now → AreParts (S.lent shards.now) ledger.now events transaction.now → HasSmallerIds (log events ledger.now ++ earlier.now) transaction.now.id → volumes ≡ entry_volumes ((log events ledger.now ++ earlier.now) ++ e ∷ []) e) }
 {
+    let totals = posting_totals(alloc, transaction.postings.as_slice())?;
+    let own = OwnMoves {
+        transaction,
+        totals: &totals,
+    };
     let mut maps = VolumeMaps::new(alloc);
     for posting in transaction.postings.as_slice() {
-        put_posting(
-            alloc,
-            &mut maps,
-            shards,
-            ledger,
-            earlier,
-            transaction,
-            posting,
-        )?;
+        put_posting(alloc, &mut maps, shards, ledger, earlier, &own, posting)?;
     }
     Ok(maps)
 }
@@ -74,15 +72,16 @@ fn put_posting<S: Shards>(
     shards: &S,
     ledger: &LedgerName,
     earlier: &[Entry],
-    transaction: &Transaction,
+    own: &OwnMoves<'_>,
     posting: &Posting,
 ) -> Result<(), NoMemory>
     requires lent_source { IsLent (S.lent shards.now) ledger.now posting.now.source }
     requires lent_destination { IsLent (S.lent shards.now) ledger.now posting.now.destination }
-    requires source { IsPairWithin (S.lent shards.now) ledger.now earlier.now transaction.now (posting.now.source, posting.now.asset) }
-    requires destination { IsPairWithin (S.lent shards.now) ledger.now earlier.now transaction.now (posting.now.destination, posting.now.asset) }
-    requires held { HasOnly (λ account asset. around transaction.now (before_of transaction.now (moves_before (S.lent shards.now) ledger.now earlier.now account asset)) account asset) maps.old }
-    ensures { OnOk result (maps.new ≡ put_both (λ account asset. around transaction.now (before_of transaction.now (moves_before (S.lent shards.now) ledger.now earlier.now account asset)) account asset) maps.old posting.now) }
+    requires source { IsPairWithin (S.lent shards.now) ledger.now earlier.now own.now.transaction.now (posting.now.source, posting.now.asset) }
+    requires destination { IsPairWithin (S.lent shards.now) ledger.now earlier.now own.now.transaction.now (posting.now.destination, posting.now.asset) }
+    requires totals { AreTotals own.now.totals.now own.now.transaction.now.postings }
+    requires held { HasOnly (λ account asset. around own.now.transaction.now (before_of own.now.transaction.now (moves_before (S.lent shards.now) ledger.now earlier.now account asset)) account asset) maps.old }
+    ensures { OnOk result (maps.new ≡ put_both (λ account asset. around own.now.transaction.now (before_of own.now.transaction.now (moves_before (S.lent shards.now) ledger.now earlier.now account asset)) account asset) maps.old posting.now) }
 {
     let asset = &posting.asset;
     put_side(
@@ -91,7 +90,7 @@ fn put_posting<S: Shards>(
         shards,
         ledger,
         earlier,
-        transaction,
+        own,
         &posting.source,
         asset,
     )?;
@@ -101,7 +100,7 @@ fn put_posting<S: Shards>(
         shards,
         ledger,
         earlier,
-        transaction,
+        own,
         &posting.destination,
         asset,
     )
@@ -114,18 +113,19 @@ fn put_side<S: Shards>(
     shards: &S,
     ledger: &LedgerName,
     earlier: &[Entry],
-    transaction: &Transaction,
+    own: &OwnMoves<'_>,
     account: &Address,
     asset: &Asset,
 ) -> Result<(), NoMemory>
     requires lent { IsLent (S.lent shards.now) ledger.now account.now }
-    requires limit { IsPairWithin (S.lent shards.now) ledger.now earlier.now transaction.now (account.now, asset.now) }
-    requires held { HasOnly (λ account asset. around transaction.now (before_of transaction.now (moves_before (S.lent shards.now) ledger.now earlier.now account asset)) account asset) maps.old }
-    ensures { OnOk result (maps.new ≡ put_four maps.old account.now asset.now (around transaction.now (before_of transaction.now (moves_before (S.lent shards.now) ledger.now earlier.now account.now asset.now)) account.now asset.now)) }
+    requires limit { IsPairWithin (S.lent shards.now) ledger.now earlier.now own.now.transaction.now (account.now, asset.now) }
+    requires totals { AreTotals own.now.totals.now own.now.transaction.now.postings }
+    requires held { HasOnly (λ account asset. around own.now.transaction.now (before_of own.now.transaction.now (moves_before (S.lent shards.now) ledger.now earlier.now account asset)) account asset) maps.old }
+    ensures { OnOk result (maps.new ≡ put_four maps.old account.now asset.now (around own.now.transaction.now (before_of own.now.transaction.now (moves_before (S.lent shards.now) ledger.now earlier.now account.now asset.now)) account.now asset.now)) }
 {
     if maps.has_pair(account, asset) {
         return Ok(());
     }
-    let volumes = pair_volumes(shards, ledger, earlier, transaction, account, asset);
+    let volumes = pair_volumes(shards, ledger, earlier, own, account, asset);
     maps.put(alloc, account, asset, &volumes)
 }

@@ -7,6 +7,7 @@ pub mod laws;
 mod maps;
 mod pairs;
 mod sums;
+mod totals;
 
 pub use first::first_volumes;
 pub use lg_base::NoMemory;

@@ -1,6 +1,6 @@
 //! The maps of volumes.
 
-ghost use Rattle.std.specs.Prelude.{◌≡◌, OnOk, IfOk, IsTrue, unwrap_or, is_some};
+ghost use Rattle.std.specs.Prelude.{◌≡◌, OnOk, IfOk, IsTrue, is_some};
 ghost use Rattle.lg_containers.specs.NameTable as table;
 ghost use Rattle.lg_views.specs.Pairs.{put_pair};
 ghost use Rattle.lg_book.specs.FirstVolumes.{no_volumes};
@@ -187,18 +187,17 @@ fn put_volumes(
 ) -> Result<(), NoMemory>
     ensures { OnOk result (map.new ≡ put_pair map.old account.now asset.now volumes) }
 {
-    let mut assets = take_assets(alloc, map, account);
-    assets.put(asset.copy(alloc)?, volumes)?;
-    map.put(account.copy(alloc)?, assets)
+    let assets = map.open(alloc, account, AssetVolumes::new(alloc))?;
+    put_asset(alloc, assets, asset, volumes)
 }
 
-/// Takes the volumes of the account out of the map.
-fn take_assets(alloc: Global, map: &mut AccountVolumes, account: &Address) -> AssetVolumes
-    ensures value { result ≡ unwrap_or (table.get map.old account.now) table.empty }
-    ensures rest { map.new ≡ table.remove map.old account.now }
+fn put_asset(
+    alloc: Global,
+    assets: &mut AssetVolumes,
+    asset: &Asset,
+    volumes: Volumes,
+) -> Result<(), NoMemory>
+    ensures { OnOk result (assets.new ≡ table.insert assets.old asset.now volumes) }
 {
-    match map.take(account.bytes()) {
-        Some(assets) => assets,
-        None => AssetVolumes::new(alloc),
-    }
+    assets.put(asset.copy(alloc)?, volumes)
 }

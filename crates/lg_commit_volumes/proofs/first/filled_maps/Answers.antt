@@ -1,12 +1,13 @@
 use Rattle.std.proofs.Common.{◌≤◌, ◌∙◌, List, length, subst}
 use Rattle.lg_types.specs.declared.records.Posting.{Posting}
 use Rattle.lg_book.specs.FirstVolumes.{no_volumes}
-use Rattle.lg_commit_volumes.specs.Lent.{IsLent, IsPairWithin}
-use Rattle.lg_commit_volumes.specs.Maps.{put_all}
+use Rattle.lg_commit_volumes.specs.Lent.{IsLent, IsPairWithin, moves_before}
+use Rattle.lg_commit_volumes.specs.Maps.{AreTotals, put_all}
 use Rattle.lg_commit_volumes.proofs.AroundLemmas.{read, first}
 use Rattle.lg_commit_volumes.proofs.HeldLemmas.{only_first, only_both}
 use Rattle.lg_commit_volumes.proofs.MapLemmas.{postings_next, postings_done}
 use Rattle.lg_commit_volumes.proofs.SideLemmas.{account_sides, pair_sides, item_of}
+use Rattle.lg_commit_volumes.proofs.TotalLemmas.{own_within}
 use Rattle.lg_commit_volumes.proofs.first.filled_maps.Goals as goal
 
 pub put_posting-requires-clause-lent_source : goal.put_posting-requires-clause-lent_source
@@ -28,6 +29,13 @@ pub put_posting-requires-clause-destination : goal.put_posting-requires-clause-d
 put_posting-requires-clause-destination g c =
     let at = item_of c.as_slice-posting-items.result.now c.args.transaction.now.postings c.loop-posting.posting-index c.posting-item.result c.as_slice-posting-items.ensures.value c.loop-posting-test.true c.posting-item.is in
     (pair_sides (IsPairWithin (g.S.Shards.lent c.args.shards.now) c.args.ledger.now c.args.earlier.now c.args.transaction.now) c.args.transaction.now.postings c.loop-posting.posting-index c.posting-item.result c.requires.limit at.0 at.1).1
+
+pub posting_totals-requires : goal.posting_totals-requires
+posting_totals-requires g c =
+    own_within (moves_before (g.S.Shards.lent c.args.shards.now) c.args.ledger.now c.args.earlier.now) c.args.transaction.now.postings c.as_slice.result.now c.as_slice.ensures.value c.requires.limit
+
+pub put_posting-requires-clause-totals : goal.put_posting-requires-clause-totals
+put_posting-requires-clause-totals g c = subst (AreTotals c.in_ok-totals.totals) c.as_slice.ensures.value c.in_ok-totals.ensures
 
 pub put_posting-requires-clause-held : goal.put_posting-requires-clause-held
 put_posting-requires-clause-held g c = c.loop-posting.invariant.1

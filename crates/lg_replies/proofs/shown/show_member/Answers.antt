@@ -1,5 +1,5 @@
 use Rattle.lg_base.proofs.Feeds.{then, stop}
-use Rattle.lg_replies.proofs.shown.Tuple2NameShown.show.Goals as goal
+use Rattle.lg_replies.proofs.shown.show_member.Goals as goal
 
 pub returns-in_err-feed_to : goal.returns-in_err-feed_to
 returns-in_err-feed_to g c = stop _ c.from_residual.ensures.0 c.in_err-feed_to.ensures
