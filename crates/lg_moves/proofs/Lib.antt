@@ -1,6 +1,7 @@
 pub mod SumLemmas
 pub mod BoundLemmas
 pub mod LineLemmas
+pub mod TransactionLemmas
 pub mod IndexLemmas
 pub mod BetweenLemmas
 pub mod RankLemmas

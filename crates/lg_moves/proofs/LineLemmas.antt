@@ -20,7 +20,7 @@ use Rattle.lg_moves.specs.Moves.{ComesNext, IsLastInRank}
 use Rattle.lg_moves.specs.Sums.{AreSums, IsBounded}
 use Rattle.lg_moves.specs.Bounds.{is_near, is_by_rank, key_of, passes}
 use Rattle.lg_moves.specs.Entries.{move_of, entry_of, counts, hits, every_part, timely_part, counted_part, hit_part}
-use Rattle.lg_moves.specs.Line.{Covers, IsUpTo, IsMark, IsMarked, IsLine, mark_after, Follows, IsCutAt, IsSearched, IsSearching, sums_in}
+use Rattle.lg_moves.specs.Line.{Covers, IsUpTo, IsMark, IsMarked, IsLine, mark_after, Follows, IsCutAt, IsOrdered, IsSearched, IsSearching, sums_in}
 use Rattle.lg_moves.proofs.SumLemmas.{true_or_false, sum_by_same, sum_by_none, sum_by_ones, same_total, with_move, bounded_below, cond_le, FitsOneMore, fits_one_more}
 use Rattle.lg_moves.proofs.BoundLemmas.{near_by_insertion, near_by_rank}
 
@@ -175,6 +175,27 @@ reached_push entries marks end m false d w f =
     let e : get_or (entries ++ entry_of m false ∷ []) old.0 d ≡ get_or entries old.0 d = get_or_append_left entries (entry_of m false ∷ []) d old.0 at in
     (old.0, omega (arith, length_push entries (entry_of m false)), rw e old.2, rw e old.3)
 
+-- the transactions never fall after one more
+ordered_push : (entries : List Entry) (marks : List Mark) (end : Mark) (m : Move) (timely : Bool) → IsMarked entries marks end → Follows entries end m timely → IsOrdered (entries ++ entry_of m timely ∷ [])
+ordered_push entries marks end m timely w f = record {
+  on = λ i j d le lt.
+      (let l = length_push entries (entry_of m timely) in
+      elim (cases_eq j (length entries)) [
+        | inl e ↦
+            rw (get_or_push entries (entry_of m timely) d j (sym e)) (elim (cases_eq i (length entries)) [
+              | inl e2 ↦ rw (get_or_push entries (entry_of m timely) d i (sym e2)) (omega arith)
+              | inr ne ↦
+                  (let some : 0 < length entries = omega arith in
+                  let a : (get_or entries i d).transaction ≤ (get_or entries (length entries - 1) d).transaction = w.ordered.on i (length entries - 1) d (omega arith) (omega arith) in
+                  let b : (get_or entries (length entries - 1) d).transaction ≡ end.key.transaction = (w.last d some).0 in
+                  let c : end.key.transaction ≤ m.transaction = f.transaction some in
+                  rw (get_or_append_left entries (entry_of m timely ∷ []) d i (omega arith)) (omega (arith, a, b, c)))
+            ])
+        | inr ne ↦
+            rw (get_or_append_left entries (entry_of m timely ∷ []) d j (omega arith), get_or_append_left entries (entry_of m timely ∷ []) d i (omega arith)) (w.ordered.on i j d le (omega arith))
+      ]);
+}
+
 bounded_push : (entries : List Entry) (m : Move) (timely : Bool) → IsBounded (λ part. sum_by (every_part part) entries + part m) → IsBounded (λ part. sum_by (every_part part) (entries ++ entry_of m timely ∷ []))
 bounded_push entries m timely h = record {
   input = omega (arith, h.input, sum_by_push (every_part amount_in) entries (entry_of m timely));
@@ -196,6 +217,7 @@ marked_push entries marks end m timely w f b n =
       enough = omega (arith, w.enough, w.few, n);
       last = λ d some. last_push entries end m timely d;
       reached = λ d some. reached_push entries marks end m timely d w f;
+      ordered = ordered_push entries marks end m timely w f;
       bounded = bounded_push entries m timely b;
     }
 
@@ -235,6 +257,7 @@ marked_push_due entries marks end m timely w f b n =
       enough = omega (arith, w.enough);
       last = λ d some. last_push entries end m timely d;
       reached = λ d some. reached_push entries marks end m timely d w f;
+      ordered = ordered_push entries marks end m timely w f;
       bounded = bounded_push entries m timely b;
     }
 

@@ -9,3 +9,4 @@ pub mod Seen
 pub mod Tree
 pub mod Late
 pub mod Trial
+pub mod Transactions

@@ -37,6 +37,16 @@ pub record IsMark (m : Mark) (before after : List Entry) (top : Key) : Type 0 wh
   pub precedes : Precedes m.key after
   pub low : IsUpTo m.key top
 
+-- the transactions of the entries never fall
+pub record IsOrdered (entries : List Entry) : Type 0 where
+  pub on : (i j : ℕ) (d : Entry) → i ≤ j → j < length entries → (slice_index_or entries i d).transaction ≤ (slice_index_or entries j d).transaction
+
+-- the entries before a place are of transactions before the id, and those from it on aren't
+pub record IsCutBefore (id : ℕ) (entries : List Entry) (place : ℕ) : Type 0 where
+  pub within : place ≤ length entries
+  pub before : (k : ℕ) (d : Entry) → k < place → (slice_index_or entries k d).transaction < id
+  pub after : (k : ℕ) (d : Entry) → place ≤ k → k < length entries → id ≤ (slice_index_or entries k d).transaction
+
 -- the marks of a line at each 16th place, and one at its end
 pub record IsMarked (entries : List Entry) (marks : List Mark) (end : Mark) : Type 0 where
   pub whole : IsMark end entries [] end.key
@@ -47,6 +57,7 @@ pub record IsMarked (entries : List Entry) (marks : List Mark) (end : Mark) : Ty
   pub last : (d : Entry) → 0 < length entries → ((slice_index_or entries (length entries - 1) d).transaction ≡ end.key.transaction) × ((slice_index_or entries (length entries - 1) d).inserted ≡ end.key.inserted)
   -- the greatest rank is that of an entry
   pub reached : (d : Entry) → 0 < length entries → (k : ℕ) × (k < length entries) × ((slice_index_or entries k d).effective ≡ end.key.date) × ((slice_index_or entries k d).transaction ≡ end.key.id)
+  pub ordered : IsOrdered entries
   pub bounded : IsBounded (λ part. sum_by (every_part part) entries)
 
 -- a line with its spare room: as many marks as all places need
@@ -87,3 +98,11 @@ pub record IsSearching (b : Bound) (marks : List Mark) (low size before now : �
   pub far : (k : ℕ) (d : Mark) → low + size ≤ k → k < length marks → is_near b (slice_index_or marks k d).key ≡ false
   pub later : before ≤ now
   pub cost : IsSearched (now - before) size (length marks)
+
+-- a search for the first entry that isn't of a transaction before the id: `size` entries from `low` on are left
+pub record IsSearchingBefore (id : ℕ) (entries : List Entry) (low size before now : ℕ) : Type 0 where
+  pub within : low + size ≤ length entries
+  pub near : (k : ℕ) (d : Entry) → k < low → (slice_index_or entries k d).transaction < id
+  pub far : (k : ℕ) (d : Entry) → low + size ≤ k → k < length entries → id ≤ (slice_index_or entries k d).transaction
+  pub later : before ≤ now
+  pub cost : IsSearched (now - before) size (length entries)

@@ -8,6 +8,7 @@ ghost use Rattle.lg_moves.specs.Moves.{ComesNext, IsLastInRank};
 ghost use Rattle.lg_moves.specs.Bounds.{is_by_rank, passes};
 ghost use Rattle.lg_moves.specs.Sums.{AreSums, IsBounded};
 ghost use Rattle.lg_moves.specs.Index.{is_before};
+ghost use Rattle.lg_moves.specs.Transactions.{IsTransactionBefore};
 ghost use Rattle.lg_types.specs.declared.moves.Move.{Move};
 
 use crate::bounds::Bound;
@@ -190,6 +191,15 @@ impl MoveIndex {
         ensures cost { (b : ℕ) → length self.now.items + 1 ≤ 2 ^ b → steps.new ≤ steps.old + (6 * b + 128) }
     {
         self.sum_between(from, to, by_insertion, steps).count > 0
+    }
+
+    /// The greatest transaction id below the given one among those of the moves, and `None` exactly where there is none.
+    pub fn transaction_before<L: Ledger>(&self, id: u64, steps: &mut Steps<L>) -> Option<u64>
+        ensures value { IsTransactionBefore id self.now.items result }
+        ensures cost { (b : ℕ) → length self.now.items + 1 ≤ 2 ^ b → steps.new ≤ steps.old + (b + 2) }
+    {
+        let _ = &self.late;
+        self.line.transaction_before(id, steps)
     }
 
     /// The sums of the moves between two dates: those up to the second less those before the first.

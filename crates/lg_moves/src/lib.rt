@@ -11,6 +11,7 @@ mod line;
 mod marks;
 mod scan;
 mod sums;
+mod transactions;
 mod tree;
 
 pub use index::MoveIndex;

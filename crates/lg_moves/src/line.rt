@@ -9,12 +9,14 @@ ghost use Rattle.lg_moves.specs.Sums.{AreSums, IsBounded};
 ghost use Rattle.lg_types.specs.Tally.{amount_in, amount_out};
 ghost use Rattle.lg_moves.specs.Moves.{ComesNext, IsLastInRank};
 ghost use Rattle.lg_moves.specs.Entries.{move_of, entry_of, every_part, hit_part};
+ghost use Rattle.lg_moves.specs.Transactions.{IsTransactionBefore};
 ghost use Rattle.lg_moves.specs.Line.{IsMarked, Follows, sums_in, IsUpTo, IsSearched, IsCutAt};
 
 use crate::bounds::{Bound, Key};
 use crate::entries::Entry;
 use crate::marks::Mark;
 use crate::sums::Sums;
+use crate::transactions::count_before;
 use lg_base::NoMemory;
 use lg_runs::{Runs, Steps};
 use lg_types::Move;
@@ -115,6 +117,19 @@ impl Line {
         ensures { AreSums result (λ part. sum_by (every_part part) self.now.items) }
     {
         self.end.all
+    }
+
+    /// The greatest transaction id below the given one among those of the entries.
+    pub(crate) fn transaction_before<L: Ledger>(&self, id: u64, steps: &mut Steps<L>) -> Option<u64>
+        ensures value { IsTransactionBefore id (map move_of self.now.items) result }
+        ensures cost { (b : ℕ) → length self.now.items + 1 ≤ 2 ^ b → steps.new ≤ steps.old + (b + 2) }
+    {
+        let count = count_before(&self.entries, id, steps);
+        if count == 0 {
+            None
+        } else {
+            Some(self.entries.read_at(count - 1, steps).transaction)
+        }
     }
 
     /// The sums of the entries that stand in the order of the bound and pass.

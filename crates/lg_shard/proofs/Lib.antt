@@ -8,5 +8,6 @@ pub mod HeldLemmas
 pub mod HistoryLemmas
 pub mod HistoryTies
 pub mod NamedLemmas
+pub mod NextLemmas
 pub mod KnownLemmas
 pub mod FollowingLemmas

@@ -26,11 +26,11 @@ use Rattle.lg_shard.specs.Shown.{ListsExactly}
 use Rattle.lg_shard.specs.Ties.{MovesTied, HistoriesTied}
 use Rattle.lg_shard.proofs.AccountLemmas.{bytes_same, bytes_itself, order_eq}
 
-first_true : (a b : Bool) → (a && b) ≡ true → a ≡ true
+pub first_true : (a b : Bool) → (a && b) ≡ true → a ≡ true
 first_true true b h = refl
 first_true false b h = absurd (let f : false ≡ true = h in cc)
 
-second_true : (a b : Bool) → (a && b) ≡ true → b ≡ true
+pub second_true : (a b : Bool) → (a && b) ≡ true → b ≡ true
 second_true true b h = h
 second_true false b h = absurd (let f : false ≡ true = h in cc)
 
@@ -56,7 +56,7 @@ or_swap true false = refl
 or_swap false true = refl
 or_swap false false = refl
 
-from_lt : (r : Ordering) → is_lt r ≡ true → r ≡ Less
+pub from_lt : (r : Ordering) → is_lt r ≡ true → r ≡ Less
 from_lt Less h = refl
 from_lt Equal h = absurd cc
 from_lt Greater h = absurd cc
@@ -65,7 +65,7 @@ truth : (b : Bool) → T b → b ≡ true
 truth true h = refl
 truth false h = absurd h
 
-in_order : {V : Type 0} (t : NameTable V) → IsTrue (is_in_order (pairs_of t))
+pub in_order : {V : Type 0} (t : NameTable V) → IsTrue (is_in_order (pairs_of t))
 in_order t = truth (is_in_order (pairs_of t)) (pairs_in_order t)
 
 -- ---- names in order

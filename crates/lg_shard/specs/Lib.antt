@@ -1,6 +1,7 @@
 -- what callers see
 pub mod State
 pub mod Shown
+pub mod Next
 pub mod Holdings
 pub mod Following
 pub mod FollowingLaws

@@ -1,10 +1,12 @@
 //! What is found in the accounts of one ledger.
 
 ghost use Rattle.std.specs.Prelude.{◌≡◌, ◌<◌, ◌↔◌, [], IfOk, IfSome, IsNone, Some, slice_get};
-ghost use Rattle.std.specs.List.{list_any};
+ghost use Rattle.std.specs.List.{find, list_any};
+ghost use Rattle.std.specs.Option.{option_copied};
 ghost use Rattle.lg_containers.specs.NameTable as table;
 ghost use Rattle.lg_containers.specs.Pairs.{pair_of};
 ghost use Rattle.lg_shard.specs.Accounts.{items_at, history_at};
+ghost use Rattle.lg_shard.specs.Next.{is_behind};
 ghost use Rattle.lg_shard.specs.Named.{assets_at, has_items, is_named as part_named, is_named_at, names_where};
 
 use crate::accounts::{AccountPart, Accounts};
@@ -146,4 +148,59 @@ fn assets_with_moves(
         }
     }
     Ok(names)
+}
+
+/// The first account behind the given one that has a change of its metadata, or moves; where none is given, the first
+/// of all.
+pub fn next_named<'a>(accounts: &'a Accounts, given: Option<&Address>) -> Option<&'a Address>
+    ensures { option_copied result ≡ find (is_behind (option_copied given.entry)) (names_where part_named (table.pairs_of accounts.now)) }
+{
+    let mut from = given_bytes(given);
+    'walking: while let Some((account, part)) = accounts.after(from) {
+        if is_named(part) {
+            return Some(account);
+        }
+        from = Some(account.bytes());
+    }
+    None
+}
+
+/// The first asset of the account behind the given one that has moves; where none is given, the first of all.
+pub fn next_moved<'a>(
+    accounts: &'a Accounts,
+    account: &Address,
+    given: Option<&Asset>,
+) -> Option<&'a Asset>
+    ensures { option_copied result ≡ find (is_behind (option_copied given.entry)) (assets_at accounts.now account.now) }
+{
+    match accounts.find(account.bytes()) {
+        Some(part) => next_with_moves(&part.assets, given),
+        None => None,
+    }
+}
+
+fn next_with_moves<'a>(
+    assets: &'a NameMap<AssetGrammar, Reserved>,
+    given: Option<&Asset>,
+) -> Option<&'a Asset>
+    ensures { option_copied result ≡ find (is_behind (option_copied given.entry)) (names_where has_items (table.pairs_of assets.now)) }
+{
+    let mut from = given_bytes(given);
+    'walking: while let Some((asset, slot)) = assets.after(from) {
+        if has_move(slot) {
+            return Some(asset);
+        }
+        from = Some(asset.bytes());
+    }
+    None
+}
+
+// The bytes of the name, where one is given.
+fn given_bytes<G: Grammar>(given: Option<&Name<G>>) -> Option<&[u8]>
+    ensures { option_copied result ≡ option_copied given.entry }
+{
+    match given {
+        Some(name) => Some(name.bytes()),
+        None => None,
+    }
 }

@@ -5,12 +5,16 @@ ghost use Rattle.lg_types.specs.Parts.{shares_of};
 ghost use Rattle.lg_shard.specs.Following.{Follows};
 ghost use Rattle.lg_shard.specs.Held.{all_shown, IsHeld};
 ghost use Rattle.lg_shard.specs.Shown.{AreWithinLimit, ListsExactly, account_changes, account_moves, is_known, is_moved, kept_under, used_under};
+ghost use Rattle.std.specs.Option.{option_copied};
+ghost use Rattle.lg_shard.specs.Next.{IsNextName};
 ghost use Rattle.lg_shard.specs.State.{StripeState, placed, coming_shares};
 
 use crate::events::{apply_event, prepare_event, push_kept, release_events, take_names};
 use crate::kept::KeptEvent;
 use crate::ledgers::Ledgers;
-use crate::readers::{find_history, find_index, is_named_in, moved_assets, named_accounts};
+use crate::readers::{
+    find_history, find_index, is_named_in, moved_assets, named_accounts, next_moved, next_named,
+};
 use lg_containers::{Address, Asset, Key, LedgerName, List, NoMemory, Reference, Shared};
 use lg_keys::Kept;
 use lg_maps::NameMap;
@@ -175,6 +179,33 @@ impl Shard {
         match self.ledgers.find(ledger.bytes()) {
             Some(part) => moved_assets(self.alloc, &part.accounts, account),
             None => Ok(List::new(self.alloc)),
+        }
+    }
+
+    /// The next account behind the given one that the ledger names, in byte order; where none is given, the first of all.
+    /// Takes no memory and copies no list.
+    pub fn account_after(&self, ledger: &LedgerName, after: Option<&Address>) -> Option<&Address>
+        ensures { IsNextName (is_known self.now.shares ledger.now) (option_copied after.entry) (option_copied result) }
+    {
+        match self.ledgers.find(ledger.bytes()) {
+            Some(part) => next_named(&part.accounts, after),
+            None => None,
+        }
+    }
+
+    /// The next asset behind the given one in which an account of the ledger has moves, in byte order; where none is
+    /// given, the first of all. Takes no memory and copies no list.
+    pub fn asset_after(
+        &self,
+        ledger: &LedgerName,
+        account: &Address,
+        after: Option<&Asset>,
+    ) -> Option<&Asset>
+        ensures { IsNextName (is_moved self.now.shares ledger.now account.now) (option_copied after.entry) (option_copied result) }
+    {
+        match self.ledgers.find(ledger.bytes()) {
+            Some(part) => next_moved(&part.accounts, account, after),
+            None => None,
         }
     }
 

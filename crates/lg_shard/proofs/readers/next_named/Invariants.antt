@@ -1,0 +1,14 @@
+use Rattle.std.proofs.Common.{◌≡◌, length}
+use Rattle.std.specs.List.{find}
+use Rattle.std.specs.Option.{option_copied}
+use Rattle.lg_containers.specs.NameTable.{pairs_of}
+use Rattle.lg_shard.specs.Named.{is_named, names_where}
+use Rattle.lg_shard.specs.Next.{is_behind}
+use Rattle.lg_shard.proofs.NextLemmas.{pairs_behind}
+use Rattle.lg_shard.proofs.readers.next_named.Given as goal
+
+abbrev pub invariant-walking : goal.invariant-walking
+invariant-walking l = find (is_behind (option_copied l.given)) (names_where is_named (pairs_of l.accounts)) ≡ find (is_behind (option_copied l.from)) (names_where is_named (pairs_of l.accounts))
+
+abbrev pub decreases-walking : goal.decreases-walking
+decreases-walking l = length (pairs_behind (option_copied l.from) (pairs_of l.accounts))
