@@ -14,7 +14,7 @@ abbrev pub IsImportBody : Tree → Body → Type 0
 IsImportBody (text t) body = (batch : Batch) × (body ≡ LinesBody batch)
 IsImportBody value body = body ≡ ValueBody value
 
--- the body of a line's request, as in `lg_views`, but that the lines of an import aren't read
+-- the body of a line's request, as in `lg_readings`, but that the lines of an import aren't read
 abbrev pub IsBodyOf : List ℕ → List ℕ → Option Tree → Body → Type 0
 IsBodyOf method target None body = body ≡ NoBody
 IsBodyOf method target (Some value) body = MatchBool (is_import method target) (IsImportBody value body) (body ≡ ValueBody value)

@@ -32,7 +32,7 @@ unfoldable pub opening : ℕ → List ℕ
 opening i =
     concat (codes "{\"caller\":" ∷ decimal (i % 4) ∷ codes ",\"phase\":" ∷ decimal (i / 100) ∷ codes ",\"now\":" ∷ date_text (pos (moment_at i)) ∷ codes ",\"method\":\"POST\",\"path\":\"/v2/default/transactions" ∷ [])
 
--- the revert of the transaction four places before
+-- the revert of the transaction that the line five before made: transactions are counted from one on, lines from zero
 abbrev pub revert_line : ℕ → List ℕ
 revert_line i = opening i ++ concat (codes "/" ∷ decimal (i - 4) ∷ codes "/revert\"}\n" ∷ [])
 

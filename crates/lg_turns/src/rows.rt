@@ -20,6 +20,7 @@ fn is_current_at<'b, P: Part, N: Name>(
 ) -> bool
     requires { place < 16 }
     ensures current { result ≡ true → (g : _) → slice_get row.now place ≡ Some (Some g) → slice_index stamps.now place ≤ (mutex_guard_value g).known }
+    ensures only { ((g : _) → slice_get row.now place ≡ Some (Some g) → slice_index stamps.now place ≤ (mutex_guard_value g).known) → result ≡ true }
 {
     match row.get(place) {
         Some(guard) => stamps[place] <= guard.known,
@@ -32,7 +33,8 @@ pub(crate) fn is_current<'b, P: Part, N: Name>(
     row: &Sixteen<Option<MutexGuard<'b, Slot<P, N>>>>,
     stamps: &[u64; 16],
 ) -> bool
-    ensures { result ≡ true → AllHeld row.now (λ k g. slice_index stamps.now k ≤ (mutex_guard_value g).known) }
+    ensures current { result ≡ true → AllHeld row.now (λ k g. slice_index stamps.now k ≤ (mutex_guard_value g).known) }
+    ensures only { AllHeld row.now (λ k g. slice_index stamps.now k ≤ (mutex_guard_value g).known) → result ≡ true }
 {
     for place in 0..row.len() {
         if !is_current_at(row, stamps, place) {
