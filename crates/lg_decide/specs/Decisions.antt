@@ -82,10 +82,20 @@ pub record IsAnswered (c : Call) (answer : Reply × List Event) (reply : Reply) 
   pub accepted : IsRefusal reply.content → ⊥
   pub whole : answer ≡ (reply, [])
 
--- the answer is the plan's reply and its events, of which there are some; the plan fits the events, and touches no stripe beside those that the call needs
+-- a plan has events, but that of an import may have none
+abbrev pub HasEvents : Call → List Event → Type 0
+HasEvents (call.Unreadable refusal) events = events ≢ []
+HasEvents (call.MakeLedger ledger bucket metadata) events = events ≢ []
+HasEvents (call.Write ledger key write) events = events ≢ []
+HasEvents (call.Bulk ledger elements atomic go_on) events = events ≢ []
+HasEvents (call.Import ledger batch) events = Unit {0}
+HasEvents (call.Ledgers query) events = events ≢ []
+HasEvents (call.Read ledger read) events = events ≢ []
+
+-- the answer is the plan's reply and its events; the plan fits the events, and touches no stripe beside those that the call needs
 pub record IsPlanned (events : List Event) (c : Call) (answer : Reply × List Event) (plan : PlanState) : Type 0 where
   pub whole : answer ≡ (plan.reply, plan.events)
-  pub some : plan.events ≢ []
+  pub some : HasEvents c plan.events
   pub fits : Fits plan events
   pub within : (k : ℕ) → any_touches plan.events k ≡ true → needed events c k ≡ true
 
