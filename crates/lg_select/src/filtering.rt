@@ -2,7 +2,7 @@
 
 ghost use Rattle.std.specs.Prelude.{◌≡◌};
 ghost use Rattle.std.specs.List.{list_any};
-ghost use Rattle.lg_views.specs.Filters.{passes as passes_by};
+ghost use Rattle.lg_views.specs.Filters.{passes as passes_by, compares as compares_by};
 ghost use Rattle.lg_select.specs.Selecting.{passes_each};
 
 use lg_types::{Field, Filter, Op, Value};
@@ -64,4 +64,17 @@ fn passes_any<T: Filtered>(item: &T, filters: &[Filter]) -> bool
         }
     }
     false
+}
+
+/// Whether two numbers stand to each other as the operator says.
+pub fn compares(op: Op, left: i128, right: i128) -> bool
+    ensures { result ≡ compares_by op left right }
+{
+    match op {
+        Op::Equal => left == right,
+        Op::Less => left < right,
+        Op::LessEqual => left <= right,
+        Op::Greater => left > right,
+        Op::GreaterEqual => left >= right,
+    }
 }

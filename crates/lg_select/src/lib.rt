@@ -5,7 +5,7 @@ mod filtering;
 mod listing;
 mod paging;
 
-pub use filtering::{Filtered, passes};
+pub use filtering::{Filtered, compares, passes};
 pub use lg_base::NoMemory;
 pub use listing::Listing;
 pub use paging::{Gathered, gather};
