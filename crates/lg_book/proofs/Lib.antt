@@ -1,4 +1,4 @@
-mod Lists
+pub mod Lists
 mod LedgerMaps
 mod Places
 mod FoundRecords

@@ -3,7 +3,7 @@
 use lg_filters::read_filter;
 use lg_json::read;
 use lg_tokens::token_of;
-use lg_types::{Address, After, Asset, Expand, Filter, ListKind, Query, Span};
+use lg_types::{Address, After, Asset, Expand, Filter, ListKind, Query, Span, Text};
 use std::alloc::Global;
 use std::test::Fail;
 
@@ -33,7 +33,7 @@ fn filtered(alloc: Global, kind: ListKind, page_size: u8, text: &str) -> Result<
     Ok(query(page_size, filter.ok_or("no filter")?))
 }
 
-fn first_ledgers(alloc: Global) -> Result<Vec<u8>, Fail> {
+fn first_ledgers(alloc: Global) -> Result<Text, Fail> {
     let query = query(1, Filter::All);
     Ok(token_of(alloc, ListKind::Ledgers, &query, &After::Place(7))?)
 }
@@ -43,11 +43,11 @@ const LEDGERS: &str = "eyJraW5kIjoibGVkZ2VycyIsInBhZ2VTaXplIjoxLCJhZnRlciI6N30";
 #[test]
 fn token_of_ledgers(rt: HostRuntime) -> Result<(), Fail> {
     let token = first_ledgers(rt.alloc())?;
-    assert!(rt; token.as_slice() == LEDGERS.as_bytes());
+    assert!(rt; token.bytes() == LEDGERS.as_bytes());
     Ok(())
 }
 
-fn accounts_at_a_date(alloc: Global) -> Result<Vec<u8>, Fail> {
+fn accounts_at_a_date(alloc: Global) -> Result<Text, Fail> {
     let mut query = query(15, Filter::All);
     query.pit = Some(0);
     query.expand = Expand {
@@ -64,11 +64,11 @@ const ACCOUNTS: &str =
 #[test]
 fn token_of_accounts(rt: HostRuntime) -> Result<(), Fail> {
     let token = accounts_at_a_date(rt.alloc())?;
-    assert!(rt; token.as_slice() == ACCOUNTS.as_bytes());
+    assert!(rt; token.bytes() == ACCOUNTS.as_bytes());
     Ok(())
 }
 
-fn volumes_between_dates(alloc: Global) -> Result<Vec<u8>, Fail> {
+fn volumes_between_dates(alloc: Global) -> Result<Text, Fail> {
     let mut query = query(100, Filter::All);
     query.span = Span {
         from: Some(0),
@@ -89,7 +89,7 @@ const VOLUMES: &str =
 #[test]
 fn token_of_volumes(rt: HostRuntime) -> Result<(), Fail> {
     let token = volumes_between_dates(rt.alloc())?;
-    assert!(rt; token.as_slice() == VOLUMES.as_bytes());
+    assert!(rt; token.bytes() == VOLUMES.as_bytes());
     Ok(())
 }
 
@@ -97,7 +97,7 @@ fn token_of_volumes(rt: HostRuntime) -> Result<(), Fail> {
 const FILTER_OF_ACCOUNTS: &str =
     r#"{"$and":[{"$match":{"metadata[k\"]":"v\n"}},{"$not":{"$gte":{"balance[USD/2]":-170141183460469231731687303715884105728}}},{"$or":[]},{"$exists":{"metadata":"n"}},{}]}"#;
 
-fn filtered_accounts(alloc: Global) -> Result<Vec<u8>, Fail> {
+fn filtered_accounts(alloc: Global) -> Result<Text, Fail> {
     let query = filtered(alloc, ListKind::Accounts, 2, FILTER_OF_ACCOUNTS)?;
     let after = After::Address(Address::read(alloc, b"a")?);
     Ok(token_of(alloc, ListKind::Accounts, &query, &after)?)
@@ -109,14 +109,14 @@ const FILTERED_ACCOUNTS: &str =
 #[test]
 fn token_with_a_filter_of_accounts(rt: HostRuntime) -> Result<(), Fail> {
     let token = filtered_accounts(rt.alloc())?;
-    assert!(rt; token.as_slice() == FILTERED_ACCOUNTS.as_bytes());
+    assert!(rt; token.bytes() == FILTERED_ACCOUNTS.as_bytes());
     Ok(())
 }
 
 const FILTER_OF_TRANSACTIONS: &str =
     r#"{"$or":[{"$lt":{"timestamp":"1970-01-01T00:00:00.5Z"}},{"$match":{"reverted":true}},{"$lte":{"id":3}},{"$match":{"source":"a:"}}]}"#;
 
-fn filtered_transactions(alloc: Global) -> Result<Vec<u8>, Fail> {
+fn filtered_transactions(alloc: Global) -> Result<Text, Fail> {
     let mut query = filtered(alloc, ListKind::Transactions, 15, FILTER_OF_TRANSACTIONS)?;
     query.expand = Expand {
         volumes: false,
@@ -131,13 +131,13 @@ const FILTERED_TRANSACTIONS: &str =
 #[test]
 fn token_with_a_filter_of_transactions(rt: HostRuntime) -> Result<(), Fail> {
     let token = filtered_transactions(rt.alloc())?;
-    assert!(rt; token.as_slice() == FILTERED_TRANSACTIONS.as_bytes());
+    assert!(rt; token.bytes() == FILTERED_TRANSACTIONS.as_bytes());
     Ok(())
 }
 
 const FILTER_OF_LOGS: &str = r#"{"$gt":{"date":"1970-01-01T00:00:00Z"}}"#;
 
-fn filtered_logs(alloc: Global) -> Result<Vec<u8>, Fail> {
+fn filtered_logs(alloc: Global) -> Result<Text, Fail> {
     let query = filtered(alloc, ListKind::Logs, 15, FILTER_OF_LOGS)?;
     Ok(token_of(alloc, ListKind::Logs, &query, &After::Place(u64::MAX))?)
 }
@@ -148,6 +148,6 @@ const FILTERED_LOGS: &str =
 #[test]
 fn token_with_a_filter_of_logs(rt: HostRuntime) -> Result<(), Fail> {
     let token = filtered_logs(rt.alloc())?;
-    assert!(rt; token.as_slice() == FILTERED_LOGS.as_bytes());
+    assert!(rt; token.bytes() == FILTERED_LOGS.as_bytes());
     Ok(())
 }

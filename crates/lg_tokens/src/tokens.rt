@@ -40,7 +40,7 @@ fn is_token(alloc: Global, kind: ListKind, query: &Query, bytes: &[u8]) -> Resul
     match &query.after {
         Some(place) => {
             let token = token_of(alloc, kind, query, place)?;
-            Ok(same_bytes(&token, bytes))
+            Ok(same_bytes(token.bytes(), bytes))
         }
         None => Ok(false),
     }

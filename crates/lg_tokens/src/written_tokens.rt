@@ -8,7 +8,7 @@ use crate::text_parts::{TextPart, TokenPart};
 use base64::engine::general_purpose::URL_SAFE_NO_PAD;
 use lg_base::{ByteFeed, Feed, NoMemory, Stop};
 use lg_containers::feed_all;
-use lg_types::{After, ListKind, Part, Query};
+use lg_types::{After, ListKind, Part, Query, Text};
 use std::alloc::Global;
 
 /// Feeds the text of a query that goes on after the place.
@@ -64,10 +64,10 @@ pub fn token_of<'x>(
     kind: ListKind,
     query: &'x Query,
     after: &'x After,
-) -> Result<Vec<u8>, NoMemory>
-    ensures { IfOk result (λ written. written.items ≡ token kind query.now after.now) }
+) -> Result<Text, NoMemory>
+    ensures { IfOk result (λ written. written ≡ token kind query.now after.now) }
 {
     let text = token_bytes(alloc, kind, query, after)?;
     let token = URL_SAFE_NO_PAD.encode(alloc, &text)?;
-    Ok(token.into_bytes())
+    Ok(Text::from_vec(token.into_bytes()))
 }

@@ -1,0 +1,3 @@
+mod Filters
+pub mod Gathering
+pub mod Suffixes
