@@ -113,6 +113,8 @@ impl Late {
 fn nodes_for(len: u64, blocks: usize, more: usize) -> usize
     ensures enough { more ≤ max result (16 * (blocks + result) - len) }
     ensures none { more ≡ 0 → result ≡ 0 }
+    ensures most { result ≤ more }
+    ensures filled { 0 < result → 16 * (blocks + result) ≤ len + more + 15 }
 {
     let all = (len as u128 + more as u128).div_ceil(16);
     if all <= blocks as u128 {
