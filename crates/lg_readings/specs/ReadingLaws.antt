@@ -6,6 +6,7 @@ use Rattle.lg_types.specs.Lists.{Each, Pairs}
 use Rattle.lg_views.specs.declared.lines.ScriptLine.{ScriptLine}
 use Rattle.lg_readings.specs.Checked.{IsChecked}
 use Rattle.lg_views.specs.Import.{IsFaultless}
+use Rattle.lg_views.specs.Laws.{IsFaultlessLine}
 use Rattle.lg_readings.specs.Script.{IsScript}
 
 -- at most 64 callers and a million phases
@@ -23,3 +24,7 @@ ScriptsInOrder = (bytes : List ℕ) (ls : List ScriptLine) → IsScript bytes ls
 
 abbrev pub CheckedIsFaultless : Type 0
 CheckedIsFaultless = (recompute : Bool) (bytes : List ℕ) (g : List Entry) → IsChecked recompute bytes (Ready g) → IsFaultless g
+
+-- an import of a script brings entries that are a faultless log
+abbrev pub ScriptsImportFaultless : Type 0
+ScriptsImportFaultless = (bytes : List ℕ) (ls : List ScriptLine) → IsScript bytes ls → Each IsFaultlessLine ls
