@@ -3,7 +3,7 @@ use Rattle.std.specs.Prelude.{◌≡◌, ℕ, ◌<◌, ◌≤◌, ◌⊎◌, Lis
 use Rattle.std.specs.Option.{option_map}
 use Rattle.httparse.specs.Spans.{IsWithin, span_bytes}
 use Rattle.lg_base.specs.Told.{IsAtEnd}
-use Rattle.lg_heads.specs.Verdicts.{WantsMore}
+use Rattle.lg_heads.specs.Verdicts.{IsOpen, WantsMore}
 use Rattle.lg_http.specs.Messages.{Message, IsMessage, IsRefused, EndsInside, LacksBody}
 use Rattle.lg_http.specs.declared.message_spans.MessageSpans.{MessageSpans}
 use Rattle.lg_http.specs.declared.next.Next.{Next}
@@ -30,6 +30,10 @@ IsNext limit left bytes (Whole spans) = (message : Message) × IsMessageAt limit
 IsNext limit left bytes (Refused why) = IsRefused limit bytes why
 IsNext limit left bytes Cut = EndsInside limit bytes × IsAtEnd left
 IsNext limit left bytes Closed = (bytes ≡ []) × IsAtEnd left
+
+-- the bytes are the front of a message that may still become whole, or there are none
+abbrev pub AwaitsMessage : (List ℕ → List ℕ → ℕ) → List ℕ → Type 0
+AwaitsMessage limit bytes = IsOpen bytes ⊎ LacksBody limit bytes
 
 -- more bytes are wanted: there is no whole message yet, and no limit is passed
 abbrev pub WantsMessage : (List ℕ → List ℕ → ℕ) → List ℕ → Type 0

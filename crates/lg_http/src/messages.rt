@@ -7,7 +7,7 @@ ghost use Rattle.lg_inlet.specs.Bodies.{IsShort};
 ghost use Rattle.lg_inlet.specs.Taking.{TakesWanted, StopsTaking};
 ghost use Rattle.lg_inlet.specs.Unread.{unread};
 ghost use Rattle.lg_http.specs.Messages.{LacksBody};
-ghost use Rattle.lg_http.specs.Places.{IsNext, WantsMessage};
+ghost use Rattle.lg_http.specs.Places.{IsNext, WantsMessage, AwaitsMessage};
 ghost use Rattle.lg_http.specs.Bodies.{IsTaken, spans_of};
 
 use crate::body_limits::BodyLimits;
@@ -28,7 +28,7 @@ pub fn next_message<S: Source, L: BodyLimits>(
 ) -> Result<Next, Stopped>
     ensures took { IfOk result (λ _. TakesWanted (WantsMessage L.limit) S.Source source.old source.new inbox.old inbox.new) }
     ensures next { IfOk result (IsNext L.limit (S.left source.new) (unread inbox.new)) }
-    ensures stopped { IfErr result (StopsTaking (WantsMessage L.limit) S.Source source.old source.new inbox.old inbox.new) }
+    ensures stopped { IfErr result (StopsTaking (AwaitsMessage L.limit) S.Source source.old source.new inbox.old inbox.new) }
     ensures later { S.faults source.old ≤ S.faults source.new }
 {
     match inbox.find_head(source) {

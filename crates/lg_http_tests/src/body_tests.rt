@@ -15,6 +15,12 @@ fn source_of(alloc: Global, bytes: &[u8], piece: usize) -> Result<CalmSource, No
     Ok(CalmSource::new(bytes.to_vec(alloc)?, piece))
 }
 
+/// Takes so many bytes away, or all where fewer are there.
+pub fn consume_some(inbox: &mut Inbox, count: usize) {
+    let taken = count.min(inbox.unread().len());
+    inbox.consume(taken);
+}
+
 #[test]
 fn a_body_is_taken_whole_or_cut(rt: HostRuntime) -> Result<(), Fail> {
     let mut source = source_of(rt.alloc(), b"hello, you", 3)?;
@@ -50,5 +56,17 @@ fn a_fault_inside_a_body(rt: HostRuntime) -> Result<(), Fail> {
     let mut feed = ByteFeed::new(rt.alloc());
     assert_eq!(rt; inbox.pass_body(&mut source, 5, &mut feed)?, BodyEnd::Whole);
     assert!(rt; feed.bytes() == b"hello".as_slice());
+    Ok(())
+}
+
+#[test]
+fn used_bytes_are_taken_away(rt: HostRuntime) -> Result<(), Fail> {
+    let mut source = source_of(rt.alloc(), b"hello, you", 10)?;
+    let mut inbox = Inbox::new(rt.alloc(), ALLOWANCE)?;
+    assert_eq!(rt; inbox.take_body(&mut source, 10)?, BodyEnd::Whole);
+    consume_some(&mut inbox, 2);
+    assert!(rt; inbox.unread() == b"llo, you".as_slice());
+    consume_some(&mut inbox, 7);
+    assert!(rt; inbox.unread() == b"u".as_slice());
     Ok(())
 }

@@ -212,3 +212,16 @@ fn no_read_behind_a_whole_head(rt: HostRuntime) -> Result<(), Fail> {
     assert!(rt; matches!(inbox.find_head(&mut source)?, Found::Whole(_)));
     Ok(())
 }
+
+#[test]
+fn bytes_that_begin_no_head_come_before_a_stop(rt: HostRuntime) -> Result<(), Fail> {
+    let text = "GETX\x01 / HTTP/1.1\r\n\r\n";
+    let fails = vec![in rt.alloc(); 6u64]?;
+    let mut source = MemSource::new(text.as_bytes().to_vec(rt.alloc())?, fails, 1);
+    let mut inbox = Inbox::new(rt.alloc(), ALLOWANCE)?;
+    assert!(rt; inbox.find_head(&mut source) == Ok(Found::Bad));
+    let mut source = CalmSource::new(text.as_bytes().to_vec(rt.alloc())?, 1);
+    let mut inbox = Inbox::new(rt.alloc(), 5)?;
+    assert!(rt; inbox.find_head(&mut source) == Ok(Found::Bad));
+    Ok(())
+}

@@ -3,6 +3,7 @@
 ghost use Rattle.std.specs.Prelude.{◌<◌};
 
 use crate::answer::ALLOWANCE;
+use crate::body_tests::consume_some;
 use lg_base::{CalmSource, NoMemory};
 use lg_http::{BodyLimits, MessageRefusal, Next, next_message};
 use lg_inlet::{Inbox, Stopped};
@@ -123,5 +124,25 @@ fn a_spent_allowance_inside_a_body(rt: HostRuntime) -> Result<(), Fail> {
     let mut source = CalmSource::new(text.as_bytes().to_vec(rt.alloc())?, 7);
     let mut inbox = Inbox::new(rt.alloc(), 42)?;
     assert!(rt; next_message(&mut inbox, &mut source, &Short) == Err(Stopped::Spent));
+    Ok(())
+}
+
+/// The next message, which is taken away.
+fn take_next(inbox: &mut Inbox, source: &mut CalmSource) -> Result<Seen, Fail> {
+    let next = next_message(inbox, source, &Short)?;
+    if let Next::Message(spans) = next {
+        consume_some(inbox, spans.len);
+    }
+    Ok(without_places(next))
+}
+
+#[test]
+fn messages_one_after_another(rt: HostRuntime) -> Result<(), Fail> {
+    let text = "POST / HTTP/1.1\r\nContent-Length: 5\r\n\r\nhelloGET / HTTP/1.0\r\n\r\nGET";
+    let mut source = CalmSource::new(text.as_bytes().to_vec(rt.alloc())?, 7);
+    let mut inbox = Inbox::new(rt.alloc(), ALLOWANCE)?;
+    assert_eq!(rt; take_next(&mut inbox, &mut source)?, message(43, 5, false));
+    assert_eq!(rt; take_next(&mut inbox, &mut source)?, message(18, 0, true));
+    assert_eq!(rt; take_next(&mut inbox, &mut source)?, Seen::Cut);
     Ok(())
 }

@@ -1,8 +1,9 @@
 //! The texts of replies and refusals.
 
-use lg_base::{ByteFeed, Feed, Stop};
+use lg_base::{BufferedFeed, ByteFeed, CalmSink, Feed, MemSink, OutputBuffer, Stop};
 use lg_http::{
     HttpReply, MediaType, MessageRefusal, ReplyHead, body_length, feed_refusal, feed_reply,
+    write_refusal, write_reply,
 };
 use std::alloc::Global;
 use std::test::Fail;
@@ -95,5 +96,40 @@ fn refusals(rt: HostRuntime) -> Result<(), Fail> {
         long.as_slice()
             == b"HTTP/1.1 431 Request Header Fields Too Large\r\nContent-Type: application/json\r\nContent-Length: 48\r\nConnection: close\r\n\r\n{\"errorCode\":\"VALIDATION\",\"errorMessage\":\"head\"}".as_slice()
     );
+    Ok(())
+}
+
+#[test]
+fn a_reply_is_written(rt: HostRuntime) -> Result<(), Fail> {
+    let reply = Shown {
+        head: ReplyHead {
+            status: 200,
+            media: Some(MediaType::Json),
+            front: 2,
+            events: 0,
+            hit: false,
+        },
+        body: b"{}",
+    };
+    let size = body_length(&reply)?;
+    let mut sink = CalmSink::new(rt.alloc(), 1024)?;
+    let mut buffer = OutputBuffer::new(rt.alloc())?;
+    let mut feed = BufferedFeed::new(&mut sink, &mut buffer);
+    write_reply(&reply, size, false, &mut feed)?;
+    assert!(rt;
+        sink.written()
+            == b"HTTP/1.1 200 OK\r\nContent-Type: application/json\r\nContent-Length: 2\r\nLedger-Front: 2\r\nLedger-Events: 0\r\n\r\n{}".as_slice()
+    );
+    Ok(())
+}
+
+#[test]
+fn a_fault_inside_a_refusal(rt: HostRuntime) -> Result<(), Fail> {
+    let fails = vec![in rt.alloc(); 2u64]?;
+    let mut sink = MemSink::new(rt.alloc(), fails, 12, 1024)?;
+    let mut buffer = OutputBuffer::new(rt.alloc())?;
+    let mut feed = BufferedFeed::new(&mut sink, &mut buffer);
+    assert!(rt; write_refusal(MessageRefusal::BadHead, &mut feed) == Err(Stop));
+    assert!(rt; sink.written() == b"HTTP/1.1 400".as_slice());
     Ok(())
 }

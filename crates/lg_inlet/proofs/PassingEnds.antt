@@ -1,5 +1,5 @@
 -- How a turn of passing a body on goes, and how it ends.
-use Rattle.std.proofs.Common.{◌≡◌, ℕ, ◌-◌, ◌<◌, ◌≤◌, min, List, [], ◌++◌, length, take, drop, ap, ◌∙◌, subst, arith, length-append}
+use Rattle.std.proofs.Common.{◌≡◌, ℕ, ◌-◌, ◌<◌, ◌≤◌, min, List, [], ◌++◌, length, take, drop, sym, ap, ◌∙◌, subst, arith, length-append}
 use Rattle.std.specs.Prelude.{Result, Ok, Err, IsErr}
 use Rattle.std.proofs.lemmas.List.{length-take-le, length-drop}
 use Rattle.lg_base.specs.Growth.{Gives}
@@ -125,8 +125,11 @@ module _ {S F : Type 0} (source : SourceGhosts S) (feed : FeedGhosts F) where
   ends_reading old mid new to fed inbox between after size wanted NoMemory p more none later stops = record {
     body = p.body;
     ended = record {
-      came = p.passes.came ++ stops.came;
-      given_are = p.passes.given_are ∙ ap (given p.passes.came) stops.given_are ∙ given_more p.passes.came stops.came (source.left new);
+      came = p.passes.came;
+      lost = stops.0.came;
+      given_are = p.passes.given_are ∙ ap (given p.passes.came) stops.0.given_are ∙ given_more p.passes.came stops.0.came (source.left new);
+      body_is = p.passes.body_is ∙ ap (λ (l : List ℕ). p.body ++ l) (sym stops.1);
+      short = omega (arith, p.left);
     };
     fed_is = p.fed_is;
   }

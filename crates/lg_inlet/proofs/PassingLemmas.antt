@@ -83,7 +83,7 @@ module _ {S F : Type 0} (source : SourceGhosts S) (feed : FeedGhosts F) where
         ∙ ap (λ (l : List ℕ). body ++ l) (sym more.takes.unread_are);
     wanted =
         let all : unread inbox ++ p.passes.came ≡ body = p.passes.body_is ∙ ap (λ (l : List ℕ). body ++ l) p.none ∙ append-nil body in
-        inr (p.passes.came, more.came, refl, subst (IsShort size) (sym all) p.short);
+        inr (p.passes.came, more.came, refl, subst (IsShort size) (sym all) p.short, omega (arith, more.count_is, more.short));
   }
 
   -- a read that gave nothing

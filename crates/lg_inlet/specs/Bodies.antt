@@ -10,7 +10,6 @@ use Rattle.lg_inlet.specs.declared.body_end.BodyEnd.TheVariants.{Whole, Cut}
 use Rattle.lg_inlet.specs.declared.inbox.Inbox.{Inbox}
 use Rattle.lg_inlet.specs.declared.stopped.Stopped.{Stopped}
 use Rattle.lg_inlet.specs.declared.stopped.Stopped.TheVariants.{Fault, Spent, NoMemory, Full}
-use Rattle.lg_inlet.specs.Reading.{GaveSome}
 use Rattle.lg_inlet.specs.Taking.{IsWanted}
 use Rattle.lg_inlet.specs.Unread.{unread, allowance_of}
 
@@ -37,6 +36,14 @@ pub record PassesPart {S : Type 0} (source : SourceGhosts S) (old new : S) (inbo
   pub short : length body < size
   pub none : unread after ≡ []
 
+-- the body came in part, and the next bytes came from the source and are lost
+pub record LosesPassing {S : Type 0} (source : SourceGhosts S) (old new : S) (inbox after : Inbox) (size : ℕ) (body : List ℕ) : Type 0 where
+  pub came : List ℕ
+  pub lost : List ℕ
+  pub given_are : source.left old ≡ given (came ++ lost) (source.left new)
+  pub body_is : unread inbox ++ came ≡ body ++ unread after
+  pub short : length body < size
+
 -- the body came whole, or the source ended before, or a read failed or may not be made, or the feed took no more
 abbrev pub PassEnd : {S : Type 0} → SourceGhosts S → S → S → Inbox → Inbox → ℕ → List ℕ → Result BodyEnd Stopped → Type 0
 PassEnd source old new inbox after size body (Ok Whole) = Passes source old new inbox after size body × (length body ≡ size)
@@ -44,7 +51,7 @@ PassEnd source old new inbox after size body (Ok Cut) = PassesPart source old ne
 PassEnd source old new inbox after size body (Err Fault) = PassesPart source old new inbox after size body × Rose (source.faults old) (source.faults new)
 PassEnd source old new inbox after size body (Err Spent) = PassesPart source old new inbox after size body × (allowance_of after ≡ 0)
 PassEnd source old new inbox after size body (Err Full) = Passes source old new inbox after size body × (length body ≤ size)
-PassEnd source old new inbox after size body (Err NoMemory) = GaveSome source old new
+PassEnd source old new inbox after size body (Err NoMemory) = LosesPassing source old new inbox after size body
 
 -- the feed took all of it, or stopped
 abbrev pub fed_outcome : Result BodyEnd Stopped → Result (Unit {0}) Stop

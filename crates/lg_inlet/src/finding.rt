@@ -3,6 +3,7 @@
 ghost use Rattle.std.specs.Prelude.{◌≡◌, ◌≢◌, ◌≤◌, ℕ, List, length, Option, IfOk, IfErr};
 ghost use Rattle.lg_base.specs.Told.{IsAtEnd};
 ghost use Rattle.lg_heads.specs.Scanning.{place_of, HasCounted, HasNoHead, HasStopped};
+ghost use Rattle.lg_heads.specs.Verdicts.{IsOpen};
 ghost use Rattle.lg_inlet.specs.Finding.{IsFound, IsLook};
 
 use crate::found::Found;
@@ -12,7 +13,7 @@ use lg_base::Source;
 use lg_heads::{HeadScan, Seen, Verdict, judge};
 
 impl Inbox {
-    ghost use Rattle.lg_heads.specs.Verdicts.{WantsMore};
+    ghost use Rattle.lg_heads.specs.Verdicts.{IsOpen, WantsMore};
     ghost use Rattle.lg_inlet.specs.Unread.{unread};
     ghost use Rattle.lg_inlet.specs.Taking.{TakesWanted, StopsTaking};
 
@@ -21,7 +22,7 @@ impl Inbox {
     pub fn find_head<S: Source>(&mut self, source: &mut S) -> Result<Found, Stopped>
         ensures took { IfOk result (λ _. TakesWanted WantsMore S.Source source.old source.new self.old self.new) }
         ensures found { IfOk result (IsFound (S.left source.new) (unread self.new)) }
-        ensures stopped { IfErr result (StopsTaking WantsMore S.Source source.old source.new self.old self.new) }
+        ensures stopped { IfErr result (StopsTaking IsOpen S.Source source.old source.new self.old self.new) }
         ensures later { S.faults source.old ≤ S.faults source.new }
     {
         let mut scan = HeadScan::new();
@@ -44,7 +45,7 @@ impl Inbox {
                         return Ok(found_at_end(self.unread(), &scan));
                     }
                 }
-                Err(stopped) => return Err(stopped),
+                Err(stopped) => return found_or_stopped(self.unread(), &scan, stopped),
             }
         }
     }
@@ -65,6 +66,28 @@ fn look(bytes: &[u8], scan: &HeadScan, seen: Seen, next_look: &mut usize) -> Ver
     }
     *next_look = scan.at().saturating_mul(2);
     judge(bytes, scan, seen)
+}
+
+/// What stands at the front where no more bytes come, and the scan has looked at all the bytes. A head that isn't whole
+/// yet answers why no more come, and so does want of memory.
+fn found_or_stopped(bytes: &[u8], scan: &HeadScan, stopped: Stopped) -> Result<Found, Stopped>
+    requires counted { HasCounted scan.now bytes.now }
+    requires all { place_of scan.now ≡ length bytes.now }
+    requires none { HasNoHead scan.now bytes.now }
+    ensures found { (left : Option (List ℕ)) → IfOk result (IsFound left bytes.now) }
+    ensures memory { IfOk result (λ _. stopped ≢ Stopped.NoMemory) }
+    ensures same { IfErr result (λ why. why ≡ stopped) }
+    ensures open { stopped ≢ Stopped.NoMemory → IfErr result (λ _. IsOpen bytes.now) }
+{
+    if let Stopped::NoMemory = stopped {
+        return Err(stopped);
+    }
+    match judge(bytes, scan, Seen::All) {
+        Verdict::Whole(head) => Ok(Found::Whole(head)),
+        Verdict::Bad => Ok(Found::Bad),
+        Verdict::Long => Ok(Found::Long),
+        Verdict::Open => Err(stopped),
+    }
 }
 
 /// What stands at the front where the source has ended, and the scan has looked at all the bytes.

@@ -5,7 +5,7 @@ use Rattle.lg_http.specs.Bodies.{IsBodySize}
 use Rattle.lg_http.specs.Messages.{LacksBody}
 use Rattle.lg_http.specs.declared.body_size.BodySize.TheVariants.{Bytes}
 use Rattle.lg_http.proofs.MessageLemmas.{lacks_body, ok_next}
-use Rattle.lg_http.proofs.Wanting.{ok_weaker, err_weaker}
+use Rattle.lg_http.proofs.Wanting.{ok_weaker, err_weaker, loses_none}
 use Rattle.lg_http.proofs.messages.finish_message.Goals as goal
 
 pub returns-in-Ok-Bytes-clause-took : goal.returns-in-Ok-Bytes-clause-took
@@ -37,3 +37,6 @@ returns-in-Ok-Bytes-clause-next g c =
     let fits = subst (IsBodySize limit h) is (c.in-Ok-Bytes.ensures h seen) in
     ok_next limit h g.S.Source (IsShort (c.args.head.len + c.in-Ok-Bytes.size)) c.args.source.now c.take_message.new.source c.args.inbox.now c.take_message.new.inbox c.args.head c.in-Ok-Bytes.size c.take_message.result
     c.requires.1 fits c.take_message.ensures.took c.take_message.ensures.next
+
+pub returns-in-Err-clause-stopped : goal.returns-in-Err-clause-stopped
+returns-in-Err-clause-stopped g c = loses_none g.S.Source c.args.source.now c.args.inbox.now
