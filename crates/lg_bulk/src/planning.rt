@@ -1,12 +1,14 @@
 //! The decision of what a list came to.
 
-ghost use Rattle.std.specs.Prelude.{◌≡◌, ◌∷◌, [], IfOk, length};
+ghost use Rattle.std.specs.Prelude.{◌≡◌, ◌∷◌, [], IfOk, OnOk, length};
 ghost use Rattle.lg_types.specs.declared.records.Event.TheVariants.{Logged};
 ghost use Rattle.lg_views.specs.Bulk.{bulk_reply as bulk_reply_of};
+ghost use Rattle.lg_plan.specs.Plans.{with_event};
 ghost use Rattle.lg_bulk.specs.Gathering.{IsPaired, gathered_decision, gathering_decision, list_plan};
 
 use crate::gathered::{Gathered, Gathering};
 use crate::results::bulk_reply;
+use lg_book::FirstVolumes;
 use lg_containers::List;
 use lg_decide::Decision;
 use lg_plan::Plan;
@@ -71,9 +73,22 @@ fn plan_gathered(
     } = gathered;
     let mut plan = Plan::new(alloc, place, bulk_reply(results));
     for (entry, shown) in entries.into_vec().into_iter().zip(volumes.into_vec()) {
-        plan.push(logged(alloc, ledger, entry)?, shown)?;
+        push_logged(alloc, &mut plan, ledger, entry, shown)?;
     }
     Ok(plan)
+}
+
+// Puts the entry behind the events of the plan, with its volumes.
+fn push_logged(
+    alloc: Global,
+    plan: &mut Plan,
+    ledger: &LedgerName,
+    entry: Entry,
+    shown: FirstVolumes,
+) -> Result<(), NoMemory>
+    ensures ok { OnOk result (plan.new ≡ with_event plan.old (Logged ledger.now entry) shown) }
+{
+    plan.push(logged(alloc, ledger, entry)?, shown)
 }
 
 /// The event of the entry.
