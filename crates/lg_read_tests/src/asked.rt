@@ -59,7 +59,12 @@ pub fn written(alloc: Global, solo: &mut Solo) -> Result<(), Fail> {
 }
 
 /// The body of the page of the log that a request asks for.
-pub fn told_page(alloc: Global, solo: &Solo, target: &str, filter: &str) -> Result<String, Fail> {
+pub fn told_page<'a>(
+    alloc: Global,
+    solo: &Solo,
+    target: &'a str,
+    filter: &'a str,
+) -> Result<String, Fail> {
     match call_of(alloc, &request(4, "GET", target, filter))? {
         Call::Read {
             ledger,
