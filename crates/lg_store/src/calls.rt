@@ -10,6 +10,7 @@ ghost use Rattle.lg_views.specs.Writes.{first_reply, up_to};
 ghost use Rattle.lg_book.specs.Reading.{find_entry};
 ghost use Rattle.lg_decide.specs.Decisions.{IsOutcome, known_in, known_to, named_ledger};
 ghost use Rattle.lg_bulk.specs.Changes.{IsChange};
+ghost use Rattle.lg_query.specs.Asked.{IsReadAs, as_asked};
 ghost use Rattle.lg_store.specs.Built.{as_built};
 ghost use Rattle.lg_store.specs.Answering.{IsDone, IsDoneBy};
 
@@ -19,14 +20,15 @@ use lg_book::Book;
 use lg_bulk::decide;
 use lg_decide::Decision;
 use lg_plan::{Plan, carry_out, prepare_all};
+use lg_query::answer;
 use lg_shard::Shard;
 use lg_turns::Change;
-use lg_types::{Call, Duplicate, LedgerName, NoMemory, Refusal, Transaction, Write};
+use lg_types::{Call, Duplicate, LedgerName, NoMemory, Read, Refusal, Transaction, Write};
 use lg_views::{Content, Reply};
 use lg_weigh::weigh;
 use std::alloc::Global;
 
-/// Carries out a call. Imports and reads are refused as not built.
+/// Carries out a call. Imports, the list of ledgers and some reads are refused as not built.
 pub fn answer_call(
     alloc: Global,
     shards: &mut Vec<Shard>,
@@ -48,8 +50,22 @@ pub fn answer_call(
         Call::Bulk { .. } => change(alloc, shards, book, call, now),
         Call::Import { .. } => Ok(refused(Refusal::NotBuilt)),
         Call::Ledgers { .. } => Ok(refused(Refusal::NotBuilt)),
-        Call::Read { .. } => Ok(refused(Refusal::NotBuilt)),
+        Call::Read { ledger, read } => asked(alloc, book, ledger, read),
     }
+}
+
+/// The reading of a ledger adds nothing.
+fn asked(
+    alloc: Global,
+    book: &Book,
+    ledger: &LedgerName,
+    read: &Read,
+) -> Result<Done, NoMemory>
+    ensures events { IfOk result (λ done. done.events ≡ 0) }
+    ensures reply { IfOk result (λ done. IsReadAs book.now.events (as_asked ledger.now read.now) done.reply) }
+{
+    let reply = answer(alloc, book, ledger, read)?;
+    Ok(Done { events: 0, reply })
 }
 
 /// Nothing is added, and the reply is the refusal.

@@ -64,7 +64,8 @@ impl Solo {
     }
 
     /// Answers a call at a moment, in microseconds since 1970-01-01T00:00:00Z, and adds its events. Where memory is wanting
-    /// the answer is `OutOfMemory`, and nothing is added. Imports and reads are refused as not built.
+    /// the answer is `OutOfMemory`, and nothing is added. Imports, the list of ledgers and some reads are refused as not
+    /// built.
     pub fn call(&mut self, call: &Call, now: i64) -> Answer
         ensures { Answers self.old call.now now result self.new }
     {

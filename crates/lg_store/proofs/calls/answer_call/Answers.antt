@@ -23,7 +23,5 @@ returns-in-Ledgers-clause-done c =
     subst (λ (x : Call). IsDone c.args.book.now.events (as_built x) c.args.now c.args.book.now.events c.refused-in-Ledgers.result) (sym c.in-Ledgers.is)
     (refusal_done c.args.book.now.events NotBuilt c.args.now c.refused-in-Ledgers.result c.refused-in-Ledgers.ensures.events c.refused-in-Ledgers.ensures.reply)
 
-pub returns-in-Read-clause-done : goal.returns-in-Read-clause-done
-returns-in-Read-clause-done c =
-    subst (λ (x : Call). IsDone c.args.book.now.events (as_built x) c.args.now c.args.book.now.events c.refused-in-Read.result) (sym c.in-Read.is)
-    (refusal_done c.args.book.now.events NotBuilt c.args.now c.refused-in-Read.result c.refused-in-Read.ensures.events c.refused-in-Read.ensures.reply)
+pub returns-in_ok-asked-in-Read-clause-done : goal.returns-in_ok-asked-in-Read-clause-done
+returns-in_ok-asked-in-Read-clause-done c = ?
