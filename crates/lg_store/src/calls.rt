@@ -61,8 +61,7 @@ fn asked(
     ledger: &LedgerName,
     read: &Read,
 ) -> Result<Done, NoMemory>
-    ensures events { IfOk result (λ done. done.events ≡ 0) }
-    ensures reply { IfOk result (λ done. IsReadAs book.now.events (as_asked ledger.now read.now) done.reply) }
+    ensures { IfOk result (λ done. (done.events ≡ 0) × IsReadAs book.now.events (as_asked ledger.now read.now) done.reply) }
 {
     let reply = answer(alloc, book, ledger, read)?;
     Ok(Done { events: 0, reply })
