@@ -2,6 +2,8 @@
 #![tactic(auto)]
 
 mod account_at;
+mod single;
 
 pub use account_at::AccountAt;
 pub use lg_base::NoMemory;
+pub use single::account;

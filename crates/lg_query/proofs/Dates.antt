@@ -17,6 +17,7 @@ use Rattle.lg_book.proofs.Sound.{log-snoc, bytes_same}
 use Rattle.std.specs.Prelude.{reverse}
 use Rattle.std.specs.List.{filter}
 use Rattle.lg_views.specs.Reads.{is_dated_to}
+use Rattle.lg_accounts.specs.Dates.{NeverFall}
 use Rattle.lg_query.specs.Newest.{newest_first}
 use Rattle.lg_query.proofs.Numbered.{front, all-newest, all_pass}
 
@@ -141,3 +142,7 @@ dated_front g date count holds within =
 
 pub undated_front : (g : List Entry) (count : ℕ) → count ≡ length g → newest_first count g ≡ filter (is_dated_to None) (reverse g)
 undated_front g count is = ap (λ k. newest_first k g) is ∙ sym (all-newest g) ∙ sym (all_pass (reverse g))
+
+-- the dates of a book's log never fall
+pub dates_rise : (events : List Event) (ledger : List ℕ) → IsGrown events → NeverFall (log events ledger)
+dates_rise events ledger h j k d e first second least = rise (log events ledger) (log_follows events ledger h) k j e d second first least

@@ -1,3 +1,4 @@
 pub mod Dates
 pub mod Numbered
 pub mod Asked
+pub mod Ready

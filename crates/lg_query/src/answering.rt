@@ -1,34 +1,50 @@
 //! What a ledger is asked, answered from the book.
 
-ghost use Rattle.std.specs.Prelude.{◌≡◌, ◌≤◌, IfOk, List, length, take};
+ghost use Rattle.std.specs.Prelude.{◌≡◌, ◌<◌, ◌≤◌, IfOk, List, length, take};
+ghost use Rattle.lg_types.specs.Parts.{part_of};
+ghost use Rattle.lg_types.specs.Stripes.{stripe};
+ghost use Rattle.lg_types.specs.declared.classes.Class.TheVariants.{Account as AccountClass};
 ghost use Rattle.lg_types.specs.declared.calls.Call.TheVariants.{Unreadable, Read as ReadCall};
-ghost use Rattle.lg_types.specs.declared.queries.Read.TheVariants.{Ledger as OfLedger, Logs as OfLogs, Export as OfExport};
+ghost use Rattle.lg_types.specs.declared.queries.Read.TheVariants.{Ledger as OfLedger, Account as OfAccount, Logs as OfLogs, Export as OfExport};
 ghost use Rattle.lg_types.specs.declared.records.Event.{Event};
 ghost use Rattle.lg_types.specs.declared.refusals.Refusal.TheVariants.{NoLedger, NotBuilt};
 ghost use Rattle.lg_types.specs.Log.{log};
+ghost use Rattle.lg_views.specs.Reads.{account_content};
 ghost use Rattle.lg_views.specs.Replies.{plain as plain_reply, refused};
-ghost use Rattle.lg_query.specs.Asked.{IsReadAs, as_asked};
+ghost use Rattle.lg_accounts.specs.Dates.{NeverFall};
+ghost use Rattle.lg_query.specs.Asked.{AreReady, IsReadAs, as_asked};
 
 use crate::entries::entries_page;
+use lg_accounts::{AccountAt, account};
 use lg_base::NoMemory;
 use lg_book::Book;
 use lg_containers::{Duplicate, LedgerName, List};
-use lg_types::{Entries, Query, Read, Refusal};
+use lg_runs::Steps;
+use lg_shard::{Class, Shards, stripe_of};
+use lg_types::{Address, Entries, Expand, Query, Read, Refusal};
 use lg_views::{Content, Reply};
 use std::alloc::Global;
+use std::marker::Brand;
+use std::sync::ledger::{Blank, Ledger};
 
-/// What a reading of a ledger is answered.
-pub fn answer(
+/// What a reading of a ledger is answered, over the shards of the stripes that it needs and the book.
+pub fn answer<S: Shards>(
     alloc: Global,
+    shards: &S,
     book: &Book,
     ledger: &LedgerName,
     read: &Read,
 ) -> Result<Reply, NoMemory>
+    requires { AreReady (S.lent shards.now) book.now.events ledger.now read.now }
     ensures { IfOk result (IsReadAs book.now.events (as_asked ledger.now read.now)) }
 {
     match read {
         Read::Ledger => ledger_record(alloc, book, ledger),
-        Read::Account { .. } => Ok(not_built()),
+        Read::Account {
+            address,
+            pit,
+            expand,
+        } => account_at(alloc, shards, book, ledger, address, *pit, *expand),
         Read::Transaction { .. } => Ok(not_built()),
         Read::Accounts { .. } => Ok(not_built()),
         Read::Transactions { .. } => Ok(not_built()),
@@ -48,6 +64,53 @@ fn ledger_record(alloc: Global, book: &Book, ledger: &LedgerName) -> Result<Repl
         None => no_ledger(alloc, ledger),
         Some(info) => Ok(plain(Content::Ledger(info.copy(alloc)?))),
     }
+}
+
+// One account of a ledger at a date.
+fn account_at<S: Shards>(
+    alloc: Global,
+    shards: &S,
+    book: &Book,
+    ledger: &LedgerName,
+    address: &Address,
+    pit: Option<i64>,
+    expand: Expand,
+) -> Result<Reply, NoMemory>
+    requires { AreReady (S.lent shards.now) book.now.events ledger.now (OfAccount address.now pit expand) }
+    ensures { IfOk result (IsReadAs book.now.events (ReadCall ledger.now (OfAccount address.now pit expand))) }
+{
+    let _grown = book.len();
+    match book.log_len(ledger) {
+        None => no_ledger(alloc, ledger),
+        Some(_) => match shards.shard(stripe_of(Class::Account, ledger, address.bytes())) {
+            None => unreachable!(),
+            Some(shard) => {
+                let of = AccountAt {
+                    shard,
+                    ledger,
+                    address,
+                    pit,
+                };
+                Ok(plain(content_of::<Brand>(alloc, &of, expand, Blank::new(1))?))
+            }
+        },
+    }
+}
+
+// The account as it is at the date.
+fn content_of<L: Ledger>(
+    alloc: Global,
+    of: &AccountAt<'_>,
+    expand: Expand,
+    blank: Blank,
+) -> Result<Content, NoMemory>
+    requires name { blank.name ≡ L.name }
+    requires parts { blank.parts ≡ L.parts }
+    requires some { 0 < L.parts }
+    ensures { IfOk result (λ content. (events : List Event) → of.now.shard.now.shares ≡ part_of (stripe AccountClass of.now.ledger.now of.now.address.now) events → NeverFall (log events of.now.ledger.now) → content ≡ account_content (log events of.now.ledger.now) of.now.address.now of.now.pit expand) }
+{
+    let mut steps = Steps::<L>::new(blank);
+    account(alloc, of, expand, &mut steps)
 }
 
 // The page of a ledger's log.

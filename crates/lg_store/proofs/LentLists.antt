@@ -4,14 +4,18 @@ use Rattle.std.specs.Prelude.{Option, Some, None, IsSome, slice_get}
 use Rattle.std.specs.Option.{IsSomeAnd}
 use Rattle.std.proofs.lemmas.Option.{slice_get-get_or}
 use Rattle.lg_types.specs.declared.calls.Call.{Call}
+use Rattle.lg_types.specs.declared.calls.Call.TheVariants.{Read as ReadCall}
+use Rattle.lg_types.specs.declared.queries.Read.{Read}
 use Rattle.lg_types.specs.declared.records.Event.{Event}
 use Rattle.lg_types.specs.declared.records.Transaction.{Transaction}
+use Rattle.lg_types.specs.Log.{log}
 use Rattle.lg_types.specs.Parts.{part_of}
 use Rattle.lg_shard.specs.State.{StripeState}
 use Rattle.lg_weigh.specs.Lent.{AreLent, AreParts}
 use Rattle.lg_weigh.specs.Reach.{needs}
 use Rattle.lg_weigh.proofs.LentLemmas.{all_lent}
 use Rattle.lg_plan.specs.Events.{AreShards}
+use Rattle.lg_query.specs.Asked.{AreReady, named_transaction}
 
 no_shard : StripeState
 no_shard = record { stripe = 0; shares = []; prepared = [] }
@@ -35,3 +39,10 @@ every_part events shards call known h =
     record {
       each = λ k wanted. some_and (slice_get shards k) (λ state. state.shares ≡ part_of k events) (lent.each k wanted) (λ s is. ap (λ (x : StripeState). x.shares) (h.each k s is));
     }
+
+-- so a reading of a ledger is ready
+pub always_ready : (events : List Event) (shards : List StripeState) (ledger : List ℕ) (read : Read) → AreShards events [] shards → AreReady (λ k. slice_get shards k) events ledger read
+always_ready events shards ledger read h = record {
+  all = every_lent events shards (ReadCall ledger read) (named_transaction (log events ledger) read) h;
+  parts = every_part events shards (ReadCall ledger read) (named_transaction (log events ledger) read) h;
+}

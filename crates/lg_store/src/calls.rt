@@ -50,20 +50,23 @@ pub fn answer_call(
         Call::Bulk { .. } => change(alloc, shards, book, call, now),
         Call::Import { .. } => Ok(refused(Refusal::NotBuilt)),
         Call::Ledgers { .. } => Ok(refused(Refusal::NotBuilt)),
-        Call::Read { ledger, read } => asked(alloc, book, ledger, read),
+        Call::Read { ledger, read } => asked(alloc, shards.as_slice(), book, ledger, read),
     }
 }
 
 /// The reading of a ledger adds nothing.
 fn asked(
     alloc: Global,
+    shards: &[Shard],
     book: &Book,
     ledger: &LedgerName,
     read: &Read,
 ) -> Result<Done, NoMemory>
+    requires { AreShards book.now.events [] shards.now }
     ensures { IfOk result (λ done. (done.events ≡ 0) × IsReadAs book.now.events (as_asked ledger.now read.now) done.reply) }
 {
-    let reply = answer(alloc, book, ledger, read)?;
+    let lent = AllShards { shards };
+    let reply = answer(alloc, &lent, book, ledger, read)?;
     Ok(Done { events: 0, reply })
 }
 
