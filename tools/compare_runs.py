@@ -7,8 +7,8 @@ FOLDER, or the environment's LEDGERD_SECOND, has `script.py`, whose `run(bytes, 
 `fuzz.py`, which prints random scripts, as `python3 fuzz.py SEED 100`, and `rows_test.py` with worked examples. Without
 the folder nothing is compared. SCRIPTS says how many random scripts there are, 300 where it is absent.
 
-Lines of requests that aren't built yet are left out of each script: imports, and reads of accounts, transactions,
-volumes, counts and the list of ledgers.
+Lines of requests that aren't built yet are left out of each script: imports, lists of accounts and of ledgers,
+and reads of transactions, volumes, sums and counts.
 """
 import json
 import os
@@ -19,7 +19,7 @@ import urllib.parse
 
 TOP = os.path.join(os.path.dirname(os.path.abspath(__file__)), "..")
 PROGRAM = os.path.join(TOP, "bin", "ledgerd")
-READS = re.compile(r"/v2/[^/]+(/logs)?")
+READS = re.compile(r"/v2/[^/]+(/logs|/accounts/[^/]+)?")
 LINES = 100
 SHOWN = 10
 

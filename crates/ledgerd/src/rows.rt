@@ -8,7 +8,7 @@ pub struct Row {
 }
 
 /// Worked scripts.
-pub const ROWS: [Row; 25] = [
+pub const ROWS: [Row; 26] = [
     Row {
         name: "postings are tried in their order",
         script: br#"{"now":"2024-01-01T00:00:00Z","method":"POST","path":"/v2/default/transactions","body":{"postings":[{"source":"world","destination":"a","amount":50,"asset":"EUR"},{"source":"a","destination":"b","amount":50,"asset":"EUR"}]}}
@@ -358,6 +358,41 @@ pub const ROWS: [Row; 25] = [
 {"line":5,"front":1,"events":0,"hit":false,"status":400,"body":{"errorCode":"VALIDATION","errorMessage":"line: syntax at byte 0"}}
 {"line":6,"front":1,"events":0,"hit":false,"status":400,"body":{"errorCode":"VALIDATION","errorMessage":"line: too deep at byte 64"}}
 {"event":0,"made":{"name":"default","addedAt":"1970-01-01T00:00:00Z","bucket":"_default","metadata":{}}}
+"#,
+    },
+    Row {
+        name: "what was held at which date",
+        script: br#"{"now":"2024-01-01T00:00:00Z","method":"POST","path":"/v2/default/transactions","body":{"postings":[{"source":"world","destination":"users:1","amount":100,"asset":"USD/2"}]}}
+{"now":"2024-01-02T00:00:00Z","method":"POST","path":"/v2/default/accounts/users:1/metadata","body":{"tier":"gold"}}
+{"now":"2024-01-03T00:00:00Z","method":"POST","path":"/v2/default/transactions","body":{"postings":[{"source":"users:1","destination":"users:2","amount":30,"asset":"USD/2"}],"timestamp":"2024-01-01T06:00:00Z"}}
+{"now":"2024-01-04T00:00:00Z","method":"GET","path":"/v2/default/accounts/users:1?expand=volumes&expand=effectiveVolumes"}
+{"now":"2024-01-04T00:00:00Z","method":"GET","path":"/v2/default/accounts/users:1?expand=volumes&expand=effectiveVolumes&pit=2024-01-01T12:00:00Z"}
+{"now":"2024-01-04T00:00:00Z","method":"GET","path":"/v2/default/accounts/users:2?pit=2024-01-01T06:00:00Z&expand=volumes&expand=effectiveVolumes"}
+{"now":"2024-01-04T00:00:00Z","method":"GET","path":"/v2/default/accounts/users:2?pit=2024-01-01T05:59:59Z"}
+{"now":"2024-01-04T00:00:00Z","method":"GET","path":"/v2/default/accounts/users:3"}
+{"now":"2024-01-04T00:00:00Z","method":"GET","path":"/v2/default/logs?pageSize=2"}
+{"now":"2024-01-04T00:00:00Z","method":"GET","path":"/v2/default/logs?cursor=eyJraW5kIjoibG9ncyIsInBhZ2VTaXplIjoyLCJhZnRlciI6Mn0"}
+{"now":"2024-01-04T00:00:00Z","method":"GET","path":"/v2/default"}
+{"now":"2024-01-04T00:00:00Z","method":"POST","path":"/v2/default/logs/export"}
+{"now":"2024-01-04T00:00:00Z","method":"GET","path":"/v2/other/accounts/users:1"}
+"#,
+        output: br#"{"line":1,"front":1,"events":1,"hit":false,"status":200,"body":{"data":{"id":1,"postings":[{"source":"world","destination":"users:1","amount":100,"asset":"USD/2"}],"metadata":{},"timestamp":"2024-01-01T00:00:00Z","insertedAt":"2024-01-01T00:00:00Z","reverted":false,"preCommitVolumes":{"users:1":{"USD/2":{"input":0,"output":0,"balance":0}},"world":{"USD/2":{"input":0,"output":0,"balance":0}}},"postCommitVolumes":{"users:1":{"USD/2":{"input":100,"output":0,"balance":100}},"world":{"USD/2":{"input":0,"output":100,"balance":-100}}},"preCommitEffectiveVolumes":{"users:1":{"USD/2":{"input":0,"output":0,"balance":0}},"world":{"USD/2":{"input":0,"output":0,"balance":0}}},"postCommitEffectiveVolumes":{"users:1":{"USD/2":{"input":100,"output":0,"balance":100}},"world":{"USD/2":{"input":0,"output":100,"balance":-100}}}}}}
+{"line":2,"front":2,"events":1,"hit":false,"status":204,"body":null}
+{"line":3,"front":3,"events":1,"hit":false,"status":200,"body":{"data":{"id":2,"postings":[{"source":"users:1","destination":"users:2","amount":30,"asset":"USD/2"}],"metadata":{},"timestamp":"2024-01-01T06:00:00Z","insertedAt":"2024-01-03T00:00:00Z","reverted":false,"preCommitVolumes":{"users:1":{"USD/2":{"input":100,"output":0,"balance":100}},"users:2":{"USD/2":{"input":0,"output":0,"balance":0}}},"postCommitVolumes":{"users:1":{"USD/2":{"input":100,"output":30,"balance":70}},"users:2":{"USD/2":{"input":30,"output":0,"balance":30}}},"preCommitEffectiveVolumes":{"users:1":{"USD/2":{"input":100,"output":0,"balance":100}},"users:2":{"USD/2":{"input":0,"output":0,"balance":0}}},"postCommitEffectiveVolumes":{"users:1":{"USD/2":{"input":100,"output":30,"balance":70}},"users:2":{"USD/2":{"input":30,"output":0,"balance":30}}}}}}
+{"line":4,"front":4,"events":0,"hit":false,"status":200,"body":{"data":{"address":"users:1","metadata":{"tier":"gold"},"volumes":{"USD/2":{"input":100,"output":30,"balance":70}},"effectiveVolumes":{"USD/2":{"input":100,"output":30,"balance":70}}}}}
+{"line":5,"front":4,"events":0,"hit":false,"status":200,"body":{"data":{"address":"users:1","metadata":{},"volumes":{"USD/2":{"input":100,"output":0,"balance":100}},"effectiveVolumes":{"USD/2":{"input":100,"output":30,"balance":70}}}}}
+{"line":6,"front":4,"events":0,"hit":false,"status":200,"body":{"data":{"address":"users:2","metadata":{},"volumes":{},"effectiveVolumes":{"USD/2":{"input":30,"output":0,"balance":30}}}}}
+{"line":7,"front":4,"events":0,"hit":false,"status":404,"body":{"errorCode":"NOT_FOUND","errorMessage":"account users:2"}}
+{"line":8,"front":4,"events":0,"hit":false,"status":404,"body":{"errorCode":"NOT_FOUND","errorMessage":"account users:3"}}
+{"line":9,"front":4,"events":0,"hit":false,"status":200,"body":{"cursor":{"pageSize":2,"hasMore":true,"next":"eyJraW5kIjoibG9ncyIsInBhZ2VTaXplIjoyLCJhZnRlciI6Mn0","data":[{"type":"NEW_TRANSACTION","data":{"transaction":{"id":2,"postings":[{"source":"users:1","destination":"users:2","amount":30,"asset":"USD/2"}],"metadata":{},"timestamp":"2024-01-01T06:00:00Z"},"accountMetadata":{}},"date":"2024-01-03T00:00:00Z","form":2,"id":3,"hash":"72nNHNnlcoGhttAOd4AlmFrK2WUdEV92kOtWK7XabSE="},{"type":"SET_METADATA","data":{"targetType":"ACCOUNT","targetId":"users:1","metadata":{"tier":"gold"}},"date":"2024-01-02T00:00:00Z","form":2,"id":2,"hash":"7Ul8ciQ2dHlHdl4S5PtwwJ2ndra1OohACISsj78QKGk="}]}}}
+{"line":10,"front":4,"events":0,"hit":false,"status":200,"body":{"cursor":{"pageSize":2,"hasMore":false,"data":[{"type":"NEW_TRANSACTION","data":{"transaction":{"id":1,"postings":[{"source":"world","destination":"users:1","amount":100,"asset":"USD/2"}],"metadata":{},"timestamp":"2024-01-01T00:00:00Z"},"accountMetadata":{}},"date":"2024-01-01T00:00:00Z","form":2,"id":1,"hash":"KYPhpXUWT2k0VAy5oXGx3lGIycWcBOQO+PJBn7qLsq8="}]}}}
+{"line":11,"front":4,"events":0,"hit":false,"status":200,"body":{"data":{"name":"default","addedAt":"1970-01-01T00:00:00Z","bucket":"_default","metadata":{}}}}
+{"line":12,"front":4,"events":0,"hit":false,"status":200,"body":"{\"type\":\"NEW_TRANSACTION\",\"data\":{\"transaction\":{\"id\":1,\"postings\":[{\"source\":\"world\",\"destination\":\"users:1\",\"amount\":100,\"asset\":\"USD/2\"}],\"metadata\":{},\"timestamp\":\"2024-01-01T00:00:00Z\"},\"accountMetadata\":{}},\"date\":\"2024-01-01T00:00:00Z\",\"form\":2,\"id\":1,\"hash\":\"KYPhpXUWT2k0VAy5oXGx3lGIycWcBOQO+PJBn7qLsq8=\"}\n{\"type\":\"SET_METADATA\",\"data\":{\"targetType\":\"ACCOUNT\",\"targetId\":\"users:1\",\"metadata\":{\"tier\":\"gold\"}},\"date\":\"2024-01-02T00:00:00Z\",\"form\":2,\"id\":2,\"hash\":\"7Ul8ciQ2dHlHdl4S5PtwwJ2ndra1OohACISsj78QKGk=\"}\n{\"type\":\"NEW_TRANSACTION\",\"data\":{\"transaction\":{\"id\":2,\"postings\":[{\"source\":\"users:1\",\"destination\":\"users:2\",\"amount\":30,\"asset\":\"USD/2\"}],\"metadata\":{},\"timestamp\":\"2024-01-01T06:00:00Z\"},\"accountMetadata\":{}},\"date\":\"2024-01-03T00:00:00Z\",\"form\":2,\"id\":3,\"hash\":\"72nNHNnlcoGhttAOd4AlmFrK2WUdEV92kOtWK7XabSE=\"}\n"}
+{"line":13,"front":4,"events":0,"hit":false,"status":404,"body":{"errorCode":"LEDGER_NOT_FOUND","errorMessage":"ledger other"}}
+{"event":0,"made":{"name":"default","addedAt":"1970-01-01T00:00:00Z","bucket":"_default","metadata":{}}}
+{"event":1,"ledger":"default","entry":{"type":"NEW_TRANSACTION","data":{"transaction":{"id":1,"postings":[{"source":"world","destination":"users:1","amount":100,"asset":"USD/2"}],"metadata":{},"timestamp":"2024-01-01T00:00:00Z"},"accountMetadata":{}},"date":"2024-01-01T00:00:00Z","form":2,"id":1,"hash":"KYPhpXUWT2k0VAy5oXGx3lGIycWcBOQO+PJBn7qLsq8="}}
+{"event":2,"ledger":"default","entry":{"type":"SET_METADATA","data":{"targetType":"ACCOUNT","targetId":"users:1","metadata":{"tier":"gold"}},"date":"2024-01-02T00:00:00Z","form":2,"id":2,"hash":"7Ul8ciQ2dHlHdl4S5PtwwJ2ndra1OohACISsj78QKGk="}}
+{"event":3,"ledger":"default","entry":{"type":"NEW_TRANSACTION","data":{"transaction":{"id":2,"postings":[{"source":"users:1","destination":"users:2","amount":30,"asset":"USD/2"}],"metadata":{},"timestamp":"2024-01-01T06:00:00Z"},"accountMetadata":{}},"date":"2024-01-03T00:00:00Z","form":2,"id":3,"hash":"72nNHNnlcoGhttAOd4AlmFrK2WUdEV92kOtWK7XabSE="}}
 "#,
     },
 ];

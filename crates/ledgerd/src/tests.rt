@@ -78,8 +78,9 @@ fn worked_scripts_have_their_outputs(rt: HostRuntime) -> Result<(), Fail> {
 }
 
 #[test]
-fn lists_and_imports_are_not_built(rt: HostRuntime) -> Result<(), Fail> {
-    let input: &[u8] = br#"{"now":"2024-01-01T00:00:00Z","method":"GET","path":"/v2/default/logs"}
+fn some_reads_and_imports_are_not_built(rt: HostRuntime) -> Result<(), Fail> {
+    let input: &[u8] =
+        br#"{"now":"2024-01-01T00:00:00Z","method":"GET","path":"/v2/default/accounts"}
 {"now":"2024-01-01T00:00:00Z","method":"POST","path":"/v2/default/logs/import","body":""}
 {"now":"2024-01-01T00:00:00Z","method":"GET","path":"/v2/default/logs?pageSize=0"}
 "#;

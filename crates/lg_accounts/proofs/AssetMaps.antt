@@ -1,13 +1,12 @@
 -- Maps over the assets of which something counts.
-use Rattle.std.proofs.Common.{◌≡◌, ℕ, ◌+◌, ◌<◌, ◌≤◌, Bool, true, false, cond, ◌&&◌, ◌||◌, List, [], ◌∷◌, map, length, drop, get_or, Some, None, refl, sym, ap, ap₂, ◌∙◌}
+use Rattle.std.proofs.Common.{◌≡◌, ℕ, ◌+◌, ◌<◌, ◌≤◌, Bool, true, false, cond, ◌&&◌, ◌||◌, List, [], ◌∷◌, length, drop, get_or, Some, None, refl, sym, ap, ap₂, ◌∙◌}
 use Rattle.std.specs.Prelude.{Option}
 use Rattle.std.specs.List.{filter, list_any}
 use Rattle.std.specs.Str.{bytes_eq}
 use Rattle.std.proofs.lemmas.List.{drop_all, drop_more}
 use Rattle.std.proofs.lemmas.Map.Views.{any-filter_same}
-use Rattle.std.proofs.lemmas.Slice.Eq.{bytes_eq-Decides}
 use Rattle.lg_base.specs.declared.amounts.Volumes.{Volumes}
-use Rattle.lg_containers.specs.NameTable.{get, insert, empty, get-insert, get-empty, same_table}
+use Rattle.lg_containers.specs.NameTable.{get, insert, empty, get-insert, same_table}
 use Rattle.lg_types.specs.PartLaws.{is_account}
 use Rattle.lg_views.specs.Pairs.{AssetMap, asset_map, with_assets}
 use Rattle.lg_shard.proofs.AccountLemmas.{bytes_same, order_eq}

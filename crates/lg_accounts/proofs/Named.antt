@@ -1,5 +1,5 @@
 -- An account is there at a date where a change of its metadata is dated by then, or a move of it is inserted or effective by then.
-use Rattle.std.proofs.Common.{◌≡◌, ℕ, ℤ, Bool, true, false, cond, ◌&&◌, ◌||◌, List, [], ◌∷◌, ◌++◌, map, refl, sym, ap, ap₂, ◌∙◌}
+use Rattle.std.proofs.Common.{◌≡◌, ℕ, ℤ, Bool, true, false, cond, ◌&&◌, ◌||◌, List, [], ◌∷◌, map, refl, sym, ap, ap₂, ◌∙◌}
 use Rattle.std.specs.Prelude.{Option, Some, None}
 use Rattle.std.specs.List.{filter, flat_map, list_any}
 use Rattle.std.specs.Str.{bytes_eq}
@@ -16,7 +16,7 @@ use Rattle.lg_types.specs.Changes.{Change, MetaOf, account_change, body_changes,
 use Rattle.lg_types.specs.Known.{accounts, entry_accounts, own_accounts, posting_accounts, transaction_accounts}
 use Rattle.lg_types.specs.Moves.{Placed, body_transaction, entry_moves, moves, posting_moves, transaction_moves}
 use Rattle.lg_types.specs.Tally.{is_to}
-use Rattle.lg_views.specs.Reads.{account_of, accounts_at, is_account_at, is_dated_to, is_moved_by}
+use Rattle.lg_views.specs.Reads.{account_of, is_account_at, is_dated_to, is_moved_by}
 use Rattle.lg_accounts.proofs.Known.{any-map, any-filter, any-same}
 
 or_both : (a b c d : Bool) → ((a || b) || (c || d)) ≡ ((a || c) || (b || d))
@@ -106,6 +106,7 @@ module _ (account : List ℕ) (same : (x : List ℕ) → bytes_eq account x ≡ 
       never : (b : Bool) → (b && false) ≡ false
       never true = refl
       never false = refl
+
       none : (x : List ℕ) → (bytes_eq account x && is_to pit date) ≡ false
       none x = ap (λ (b : Bool). bytes_eq account x && b) late ∙ never (bytes_eq account x)
 

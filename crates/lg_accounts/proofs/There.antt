@@ -1,10 +1,10 @@
 -- An account is there at a date by what the shard of its stripe knows of it.
-use Rattle.std.proofs.Common.{◌≡◌, ℕ, ℤ, Bool, true, false, ◌&&◌, ◌||◌, List, refl, sym, ap, ap₂, subst, ◌∙◌}
+use Rattle.std.proofs.Common.{◌≡◌, ℕ, ℤ, Bool, true, false, ◌&&◌, ◌||◌, List, sym, ap, ap₂, subst, ◌∙◌}
 use Rattle.std.specs.Prelude.{Option, None}
 use Rattle.std.specs.List.{list_any}
 use Rattle.std.specs.Str.{bytes_eq}
 use Rattle.lg_meta.specs.declared.change.DatedChange.{DatedChange}
-use Rattle.lg_meta.specs.MetaFold.{changes_about, first_date}
+use Rattle.lg_meta.specs.MetaFold.{first_date}
 use Rattle.lg_types.specs.declared.classes.Class.TheVariants.{Account as AccountClass}
 use Rattle.lg_types.specs.declared.moves.Move.{Move}
 use Rattle.lg_types.specs.declared.records.Event.{Event}
@@ -23,7 +23,7 @@ use Rattle.lg_accounts.specs.Volumes.{is_counted_in}
 use Rattle.lg_accounts.proofs.Begun.{changed_by}
 use Rattle.lg_accounts.proofs.Known.{and_true, any-same, any_of_pair, by_effect, by_insertion, changes_known, moves_known}
 use Rattle.lg_accounts.proofs.Moved.{alike, any_asset}
-use Rattle.lg_accounts.proofs.Named.{is_effective_by, is_inserted_by, is_move_of, there_at}
+use Rattle.lg_accounts.proofs.Named.{is_move_of, there_at}
 
 turned : (x y : List ℕ) → bytes_eq x y ≡ true → bytes_eq y x ≡ true
 turned x y h = subst (λ (z : List ℕ). bytes_eq z x ≡ true) (bytes_same x y h) (bytes_itself x)

@@ -102,12 +102,7 @@ impl<'a> AccountAt<'a> {
     }
 
     // Whether a move of the asset counts.
-    fn is_counted<L: Ledger>(
-        &self,
-        asset: &Asset,
-        by_insertion: bool,
-        steps: &mut Steps<L>,
-    ) -> bool
+    fn is_counted<L: Ledger>(&self, asset: &Asset, by_insertion: bool, steps: &mut Steps<L>) -> bool
         ensures { result ≡ is_counted_in self.now.shard.now.shares self.now.ledger.now self.now.address.now (is_between None self.now.pit by_insertion) asset.now }
     {
         match self.shard.index(self.ledger, self.address, asset) {

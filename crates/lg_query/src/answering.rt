@@ -139,12 +139,7 @@ fn export(alloc: Global, book: &Book, ledger: &LedgerName) -> Result<Reply, NoMe
 }
 
 // The first entries of a ledger, as many as are given.
-fn entries(
-    alloc: Global,
-    book: &Book,
-    ledger: &LedgerName,
-    count: u64,
-) -> Result<Entries, NoMemory>
+fn entries(alloc: Global, book: &Book, ledger: &LedgerName, count: u64) -> Result<Entries, NoMemory>
     requires { count ≤ length (log book.now.events ledger.now) }
     ensures { IfOk result (λ entries. entries ≡ take count (log book.now.events ledger.now)) }
 {
@@ -162,7 +157,9 @@ fn entries(
 fn no_ledger(alloc: Global, ledger: &LedgerName) -> Result<Reply, NoMemory>
     ensures { IfOk result (λ reply. reply ≡ refused (NoLedger ledger.now)) }
 {
-    Ok(plain(Content::Refused(Refusal::NoLedger { name: ledger.copy(alloc)? })))
+    Ok(plain(Content::Refused(Refusal::NoLedger {
+        name: ledger.copy(alloc)?,
+    })))
 }
 
 // The reply to what isn't built.
