@@ -1,0 +1,6 @@
+//! The accounts of a ledger over all its shards, from one to the next in byte order.
+#![tactic(auto)]
+
+mod walk;
+
+pub use walk::account_after;
