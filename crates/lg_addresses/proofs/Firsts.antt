@@ -65,7 +65,7 @@ found_later given next x xs not h = record {
       (λ rest. h.first name rest b);
 }
 
-of_list : (given : Option (List ℕ)) (names : List (List ℕ)) → IsStrictlySortedBy name_order names → IsFirstBehind (in_list names) given (find (is_behind given) names)
+pub of_list : (given : Option (List ℕ)) (names : List (List ℕ)) → IsStrictlySortedBy name_order names → IsFirstBehind (in_list names) given (find (is_behind given) names)
 unfolding IsStrictlySortedBy
 of_list given [] order = record { passes = tt; first = λ name there b. absurd (let no : false ≡ true = there in cc) }
 of_list given (x ∷ xs) order = by_test (is_behind given x) refl (of_list given xs order.1)

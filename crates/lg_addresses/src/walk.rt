@@ -4,8 +4,12 @@ ghost use Rattle.std.specs.Prelude.{◌≡◌, ◌<◌, List, Some};
 ghost use Rattle.std.specs.Option.{option_copied, IsSomeAnd};
 ghost use Rattle.std.specs.Ordering.{is_gt};
 ghost use Rattle.lg_containers.specs.NameOrder.{name_order};
+ghost use Rattle.std.specs.List.{find};
 ghost use Rattle.lg_types.specs.declared.records.Event.{Event};
-ghost use Rattle.lg_shard.specs.Next.{IsNextName};
+ghost use Rattle.lg_types.specs.Known.{accounts};
+ghost use Rattle.lg_types.specs.Log.{log};
+ghost use Rattle.lg_views.specs.Pairs.{in_byte_order};
+ghost use Rattle.lg_shard.specs.Next.{IsNextName, is_behind};
 ghost use Rattle.lg_shard.specs.Shown.{is_known};
 ghost use Rattle.lg_weigh.specs.Lent.{AreLent, AreParts};
 ghost use Rattle.lg_addresses.specs.Next.{IsFirstBehind, is_named, is_stripe, lesser_of};
@@ -17,6 +21,18 @@ use std::cmp::Ordering;
 /// The next account behind the given one that the ledger names, in byte order; where none is given, the first of all.
 /// Each of the sixteen shards is asked once, and no memory is taken.
 pub fn account_after<'a, S: Shards>(
+    shards: &'a S,
+    ledger: &LedgerName,
+    after: Option<&Address>,
+) -> Option<&'a Address>
+    requires { AreLent is_stripe (S.lent shards.now) }
+    ensures { (events : List Event) → AreParts is_stripe (S.lent shards.now) events → option_copied result ≡ find (is_behind (option_copied after.entry)) (in_byte_order (accounts (log events ledger.now))) }
+{
+    least_behind(shards, ledger, after)
+}
+
+// The least account of all stripes that stands behind the given one.
+fn least_behind<'a, S: Shards>(
     shards: &'a S,
     ledger: &LedgerName,
     after: Option<&Address>,
