@@ -19,7 +19,7 @@ not_itself r x h = by_test (is_gt (name_order x x)) refl
     by_test true t = absurd (let no : true ≡ false = sym t ∙ turned x x t in cc)
     by_test false t = ap is_gt (sym h) ∙ t
 
-or_cases : {P : Type 0} (a b : Bool) → (a || b) ≡ true → (a ≡ true → P) → (b ≡ true → P) → P
+pub or_cases : {P : Type 0} (a b : Bool) → (a || b) ≡ true → (a ≡ true → P) → (b ≡ true → P) → P
 or_cases true b h f g = f refl
 or_cases false b h f g = g h
 

@@ -29,7 +29,7 @@ Names = NameTable (Unit {0})
 all_names : (t : Names) → names_where (λ _. true) (pairs_of t) ≡ keys t
 all_names t = ap (map (λ p. p.0)) (all_pass (pairs_of t)) ∙ sym (keys-pairs t)
 
-sorted : (t : Names) → IsStrictlySortedBy name_order (keys t)
+pub sorted : (t : Names) → IsStrictlySortedBy name_order (keys t)
 sorted t = subst (IsStrictlySortedBy name_order) (all_names t) (order-where (λ _. true) (pairs_of t) (in_order t))
 
 abbrev is_there : Names → List ℕ → Bool
@@ -67,7 +67,7 @@ none_more : (a b : Bool) → b ≡ false → (a || b) ≡ a
 none_more true b h = refl
 none_more false b h = h
 
-in_order-members : (names : List (List ℕ)) (name : List ℕ) → list_any (is_account name) (in_byte_order names) ≡ list_any (is_account name) names
+pub in_order-members : (names : List (List ℕ)) (name : List ℕ) → list_any (is_account name) (in_byte_order names) ≡ list_any (is_account name) names
 in_order-members names name =
     listed (with_names empty names) name
     ∙ there-all empty names name
